@@ -1,0 +1,27 @@
+//! The fields of an ELF file, in little-endian order.
+
+ghost use Rattle.std.specs.Prelude.{◌≡◌, ◌≤◌, ◌+◌, length};
+ghost use Rattle.elf_file.specs.Fields.{field};
+
+use byteorder::{ByteOrder, LittleEndian};
+
+pub fn u16_at(bytes: &[u8], at: usize) -> u16
+    requires { at + 2 ≤ length bytes.now }
+    ensures { result ≡ field 2 at bytes.now }
+{
+    LittleEndian::read_u16(&bytes[at..])
+}
+
+pub fn u32_at(bytes: &[u8], at: usize) -> u32
+    requires { at + 4 ≤ length bytes.now }
+    ensures { result ≡ field 4 at bytes.now }
+{
+    LittleEndian::read_u32(&bytes[at..])
+}
+
+pub fn u64_at(bytes: &[u8], at: usize) -> u64
+    requires { at + 8 ≤ length bytes.now }
+    ensures { result ≡ field 8 at bytes.now }
+{
+    LittleEndian::read_u64(&bytes[at..])
+}

@@ -1,0 +1,60 @@
+-- From a run of the core to what the top call answers.
+use Rattle.std.proofs.Common.{◌≡◌, ℕ, ◌<◌, List, [], ◌∷◌, ◌++◌, append-nil, replicate, Some, None, Option, Result, Ok, Err, IfErr, map, length, refl, ap, sym, ◌∙◌, subst}
+use Rattle.std.proofs.lemmas.List.{length-map, length-replicate}
+use Rattle.elf_file.specs.Reading.{Image}
+use Rattle.guest_core.specs.Machine.{Machine}
+use Rattle.guest_core.specs.Start.{started}
+use Rattle.guest_core.specs.declared.ends.End.{End}
+use Rattle.emu_top.specs.declared.solo.Halt.{Halt}
+use Rattle.emu_top.specs.declared.solo.Halt.TheVariants as halts
+use Rattle.emu_top.specs.declared.solo.Run.{Run}
+use Rattle.emu_top.specs.declared.top.Finished.{Finished}
+use Rattle.emu_top.specs.declared.top.Stopped as top
+use Rattle.emu_top.specs.Running.{Ran, Stopped}
+use Rattle.emu_top.specs.Sending.{sent}
+use Rattle.emu_top.specs.Solo.{budget, RunsFrom, CoreStops}
+
+runs_from : {D : Type 0} (first last : Run D) → first.journal.budget ≡ budget → Ran first last → RunsFrom first.core last.journal last.core
+runs_from first last is ran = record { enabled = ran.events; within = ran.within; budget_is = ran.budget ∙ is }
+
+core_stops : {D : Type 0} (held : D → Option (List ℕ)) (writes : D → ℕ) (halt : Halt) (first last : Run D) → first.journal.budget ≡ budget → length (map held first.devices.items) ≡ length first.core.shared.outputs → map held first.devices.items ≡ sent (map held first.devices.items) first.core.shared.outputs → length last.devices.items ≡ length first.devices.items → Stopped held writes halt first last → CoreStops held writes first.core first.devices.items halt last.journal last.devices.items
+core_stops held writes (halts.Device device) first last is size quiet same stopped = (
+  last.core,
+  runs_from first last is stopped.0,
+  stopped.1 (map held first.devices.items) size quiet,
+  subst (λ (n : ℕ). device < n) same stopped.2.within,
+  stopped.2.rose,
+)
+core_stops held writes halts.Memory first last is size quiet same stopped =
+    (last.core, runs_from first last is stopped.0, stopped.1 (map held first.devices.items) size quiet)
+
+pub answer_stops : {D : Type 0} (held : D → Option (List ℕ)) (writes : D → ℕ) (ended : Result End Halt) (first last : Run D) (answer : Result (Finished D) (top.Stopped D)) → first.journal.budget ≡ budget → length (map held first.devices.items) ≡ length first.core.shared.outputs → map held first.devices.items ≡ sent (map held first.devices.items) first.core.shared.outputs → length last.devices.items ≡ length first.devices.items → IfErr ended (λ halt. Stopped held writes halt first last) → IfErr answer (λ f. (ended ≡ Err f.halt) × (f.journal ≡ last.journal) × (f.devices ≡ last.devices)) → IfErr answer (λ f. CoreStops held writes first.core first.devices.items f.halt f.journal f.devices.items)
+answer_stops held writes ended first last (Ok f) is size quiet same stopped tells = tells
+answer_stops held writes ended first last (Err f) is size quiet same stopped tells =
+    let halted : Stopped held writes f.halt first last = subst (λ (r : Result End Halt). IfErr r (λ halt. Stopped held writes halt first last)) tells.0 stopped in
+    rw (tells.1, tells.2) (core_stops held writes f.halt first last is size quiet same halted)
+
+-- ---- the start
+
+outputs_at_start : (elf : Image) (devices : ℕ) → (started elf devices).shared.outputs ≡ replicate devices []
+unfolding started
+outputs_at_start elf devices = refl
+
+nothing_sent : (helds : List (Option (List ℕ))) → sent helds (replicate (length helds) []) ≡ helds
+nothing_sent [] = refl
+nothing_sent (None ∷ helds) = ap (λ rest. None ∷ rest) (nothing_sent helds)
+nothing_sent (Some held ∷ helds) =
+    ap (λ rest. Some (held ++ []) ∷ rest) (nothing_sent helds) ∙ ap (λ bytes. Some bytes ∷ helds) (append-nil held)
+
+-- there is an output for each device
+pub start_size : {D : Type 0} (devices : List D) (elf : Image) (count : ℕ) (core : Machine) → core ≡ started elf count → count ≡ length devices → length devices ≡ length core.shared.outputs
+start_size devices elf count core is same =
+    sym same ∙ sym (length-replicate count []) ∙ ap (λ (outputs : List (List ℕ)). length outputs) (sym (outputs_at_start elf count)) ∙ ap (λ (m : Machine). length m.shared.outputs) (sym is)
+
+-- and nothing was written
+pub start_quiet : {D : Type 0} (held : D → Option (List ℕ)) (devices : List D) (elf : Image) (count : ℕ) (core : Machine) → core ≡ started elf count → count ≡ length devices → map held devices ≡ sent (map held devices) core.shared.outputs
+start_quiet held devices elf count core is same =
+    let size : count ≡ length (map held devices) = same ∙ simp length-map in
+    let outputs : core.shared.outputs ≡ replicate (length (map held devices)) [] =
+    ap (λ (m : Machine). m.shared.outputs) is ∙ outputs_at_start elf count ∙ ap (λ (n : ℕ). replicate n []) size in
+    sym (nothing_sent (map held devices)) ∙ ap (sent (map held devices)) (sym outputs)

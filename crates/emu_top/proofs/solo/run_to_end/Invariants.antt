@@ -1,0 +1,16 @@
+use Rattle.std.proofs.Common.{◌≡◌, Some, map, length}
+use Rattle.guest_core.specs.Event.{run}
+use Rattle.emu_top.specs.Running.{KeepsSent}
+use Rattle.emu_top.specs.Sending.{NoneFell}
+use Rattle.emu_top.proofs.solo.run_to_end.Given as goal
+
+abbrev pub invariant-loop : goal.invariant-loop
+invariant-loop g l = record {
+  ran : run (Some l.initial.run.core) l.run.journal.events ≡ Some l.run.core;
+  count : length l.run.journal.events ≡ l.counter;
+  budget : l.run.journal.budget ≡ l.initial.run.journal.budget;
+  sent : KeepsSent g.D.Device.held l.initial.run l.run;
+  devices : length l.run.devices.items ≡ length l.initial.run.devices.items;
+  outputs : length l.run.core.shared.outputs ≡ length l.initial.run.core.shared.outputs;
+  none_fell : NoneFell (map g.D.Device.failed_writes l.initial.run.devices.items) (map g.D.Device.failed_writes l.run.devices.items);
+}

@@ -1,0 +1,18 @@
+use Rattle.emu_top.proofs.SendFacts.{send_ok, send_err, none_fell, rose_at}
+use Rattle.emu_top.proofs.solo.send.Goals as goal
+
+pub returns-clause-ok : goal.returns-clause-ok
+returns-clause-ok g c =
+    send_ok g.D.Device.held c.take.result c.args.devices.now.items c.args.device c.index_mut.result.now c.take.new.self c.args.bytes.now c.requires c.index_mut.ensures.value c.take.ensures.all
+
+pub returns-clause-beginning : goal.returns-clause-beginning
+returns-clause-beginning g c =
+    send_err g.D.Device.held c.take.result c.args.devices.now.items c.args.device c.index_mut.result.now c.take.new.self c.args.bytes.now c.requires c.index_mut.ensures.value c.take.ensures.beginning
+
+pub returns-clause-none_fell : goal.returns-clause-none_fell
+returns-clause-none_fell g c =
+    none_fell g.D.Device.failed_writes c.args.devices.now.items c.args.device c.index_mut.result.now c.take.new.self c.index_mut.ensures.value c.take.ensures.writes.later
+
+pub returns-clause-rose : goal.returns-clause-rose
+returns-clause-rose g c =
+    rose_at g.D.Device.failed_writes c.take.result c.args.devices.now.items c.args.device c.index_mut.result.now c.take.new.self c.requires c.index_mut.ensures.value c.take.ensures.writes.failed

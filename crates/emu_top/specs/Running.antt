@@ -1,0 +1,70 @@
+-- A run as it goes on: the core, the journal, and the devices that are handed what is new.
+-- The project's own.
+use Rattle.std.specs.Prelude.{◌≡◌, ◌<◌, ◌≤◌, ℕ, List, [], ◌∷◌, ◌++◌, map, length, Option, Some, None, slice_index}
+use Rattle.guest_core.specs.declared.events.Event.TheVariants.{Step}
+use Rattle.guest_core.specs.declared.ends.End.{End}
+use Rattle.guest_core.specs.declared.ends.End.TheVariants.{Budget}
+use Rattle.guest_core.specs.Event.{first_thread, event_after, run}
+use Rattle.emu_top.specs.declared.solo.Halt.{Halt}
+use Rattle.emu_top.specs.declared.solo.Halt.TheVariants as halts
+use Rattle.emu_top.specs.declared.solo.Run.{Run}
+use Rattle.emu_top.specs.Sending.{sent, SentUpTo}
+use Rattle.emu_top.specs.Told.{Rose}
+
+-- one step was made, and noted in the journal
+pub record Stepped {D : Type 0} (old new : Run D) : Type 0 where
+  pub event : event_after old.core (Step first_thread) ≡ Some new.core
+  pub noted : new.journal.events ≡ old.journal.events ++ Step first_thread ∷ []
+
+-- nothing was made
+pub record Stays {D : Type 0} (old new : Run D) : Type 0 where
+  pub core : new.core ≡ old.core
+  pub events : new.journal.events ≡ old.journal.events
+  pub devices : new.devices ≡ old.devices
+
+-- Where all outputs had been sent to devices that held this at first, all are sent.
+abbrev pub KeepsSent : {D : Type 0} → (D → Option (List ℕ)) → Run D → Run D → Type 0
+KeepsSent held old new =
+    (helds : List (Option (List ℕ))) → length helds ≡ length old.core.shared.outputs
+    → map held old.devices.items ≡ sent helds old.core.shared.outputs
+    → map held new.devices.items ≡ sent helds new.core.shared.outputs
+
+-- the same but for a device that failed
+abbrev pub KeepsSentUpTo : {D : Type 0} → (D → Option (List ℕ)) → ℕ → Run D → Run D → Type 0
+KeepsSentUpTo held device old new =
+    (helds : List (Option (List ℕ))) → length helds ≡ length old.core.shared.outputs
+    → map held old.devices.items ≡ sent helds old.core.shared.outputs
+    → SentUpTo helds new.core.shared.outputs device (map held new.devices.items)
+
+-- the device is there, and its count of failed writes rose
+pub record FailsAt {D : Type 0} (writes : D → ℕ) (device : ℕ) (old new : Run D) : Type 0 where
+  pub within : device < length new.devices.items
+  pub rose : Rose (slice_index (map writes old.devices.items) device) (slice_index (map writes new.devices.items) device)
+
+-- why a turn stopped, and what it leaves
+abbrev pub Halted : {D : Type 0} → (D → Option (List ℕ)) → (D → ℕ) → Halt → Run D → Run D → Type 0
+Halted held writes (halts.Device device) old new = Stepped old new × KeepsSentUpTo held device old new × FailsAt writes device old new
+Halted held writes halts.Memory old new = Stays old new
+
+-- The events of the journal are a run from the core at first to the core afterwards: each is enabled after those
+-- before it. They number at most the budget.
+pub record Ran {D : Type 0} (old new : Run D) : Type 0 where
+  pub events : run (Some old.core) new.journal.events ≡ Some new.core
+  pub within : length new.journal.events ≤ new.journal.budget
+  pub budget : new.journal.budget ≡ old.journal.budget
+
+-- how a run ended, by its last state, the number of its events and its budget
+abbrev pub IsEnd : Option End → ℕ → ℕ → End → Type 0
+IsEnd (Some end) count budget told = told ≡ end
+IsEnd None count budget told = (told ≡ Budget) × (count ≡ budget)
+
+-- a run to its end, with all that was written sent
+pub record Ended {D : Type 0} (held : D → Option (List ℕ)) (end : End) (old new : Run D) : Type 0 where
+  pub ran : Ran old new
+  pub end_is : IsEnd new.core.end (length new.journal.events) new.journal.budget end
+  pub sent : KeepsSent held old new
+
+-- a run that a fault stopped
+abbrev pub Stopped : {D : Type 0} → (D → Option (List ℕ)) → (D → ℕ) → Halt → Run D → Run D → Type 0
+Stopped held writes (halts.Device device) old new = Ran old new × KeepsSentUpTo held device old new × FailsAt writes device old new
+Stopped held writes halts.Memory old new = Ran old new × KeepsSent held old new

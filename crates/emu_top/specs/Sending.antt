@@ -1,0 +1,20 @@
+-- What devices hold once the outputs of a run were sent to them.
+-- The project's own.
+use Rattle.std.specs.Prelude.{◌≡◌, ℕ, ◌≤◌, List, [], ◌∷◌, length, take, Option, None, slice_index, slice_index_or, slice_set}
+use Rattle.emu_top.specs.Told.{more}
+
+-- each holds what it held, and its output behind that
+abbrev pub sent : List (Option (List ℕ)) → List (List ℕ) → List (Option (List ℕ))
+sent [] outputs = []
+sent (held ∷ helds) [] = held ∷ helds
+sent (held ∷ helds) (output ∷ outputs) = more held output ∷ sent helds outputs
+
+-- so does each but one, which holds a beginning of its output
+abbrev pub SentUpTo : List (Option (List ℕ)) → List (List ℕ) → ℕ → List (Option (List ℕ)) → Type 0
+SentUpTo helds outputs device after =
+    (count : ℕ) × (count ≤ length (slice_index_or outputs device []))
+    × (after ≡ slice_set (sent helds outputs) device (more (slice_index_or helds device None) (take count (slice_index_or outputs device []))))
+
+-- no count has fallen
+abbrev pub NoneFell : List ℕ → List ℕ → Type 0
+NoneFell before after = (place : ℕ) → slice_index before place ≤ slice_index after place

@@ -1,0 +1,159 @@
+-- What `solo` answers. The headline of the program, over the emulator's own machine.
+-- The project's own.
+use Rattle.std.specs.Prelude.{◌≡◌, ◌≢◌, ◌⊎◌, ◌<◌, ◌≤◌, ℕ, ◌+◌, Bool, false, List, [], ◌∷◌, map, length, Option, Some, Ok, Err, nat_eq, slice_index}
+use Rattle.std.specs.List.{starts_with}
+use Rattle.elf_file.specs.declared.fault.ElfFault.TheVariants as elf_faults
+use Rattle.elf_file.specs.Reading.{Image, reading}
+use Rattle.guest_core.specs.declared.ends.End.{End}
+use Rattle.guest_core.specs.declared.ends.End.TheVariants.{Exit, Killed, Budget}
+use Rattle.guest_core.specs.Machine.{Machine}
+use Rattle.guest_core.specs.Event.{run}
+use Rattle.guest_core.specs.Start.{started}
+use Rattle.emu_top.specs.declared.folder.Entry.{Entry}
+use Rattle.emu_top.specs.declared.folder.Listed.{Listed}
+use Rattle.emu_top.specs.declared.cause.Cause.{Cause}
+use Rattle.emu_top.specs.declared.cause.Cause.TheVariants as causes
+use Rattle.emu_top.specs.declared.cause.Part.TheVariants as parts
+use Rattle.emu_top.specs.declared.solo.Halt.{Halt}
+use Rattle.emu_top.specs.declared.solo.Halt.TheVariants as halts
+use Rattle.emu_top.specs.Files.{NamesFile, Lists, Reads}
+use Rattle.emu_top.specs.Journal.{History}
+use Rattle.emu_top.specs.Running.{IsEnd}
+use Rattle.emu_top.specs.Sending.{sent, SentUpTo}
+use Rattle.emu_top.specs.Told.{Rose}
+use Rattle.emu_top.specs.Words.{IsSolo, IsAccepted, IsFirstWrong}
+
+-- the most events of a run
+abbrev pub budget : ℕ
+budget = 4194304
+
+-- the status of the program at an end
+abbrev pub status_of : End → ℕ
+status_of (Exit code) = code
+status_of (Killed signal) = 128 + signal
+status_of Budget = 75
+
+-- names that begin with `rv-` are no programs
+abbrev pub is_reserved : List ℕ → Bool
+is_reserved path = starts_with nat_eq path (114 ∷ 118 ∷ 45 ∷ [])
+
+-- the listing has the program
+abbrev pub HasProgram : List Listed → List ℕ → Type 0
+HasProgram listing program = NamesFile listing program × (is_reserved program ≡ false)
+
+-- the folder lists the program, whose bytes these are
+pub record Found (tree : Option (List Entry)) (program bytes : List ℕ) : Type 0 where
+  pub listing : List Listed
+  pub lists : Lists tree listing
+  pub has : HasProgram listing program
+  pub reads : Reads tree program bytes
+
+-- the words name a program of the folder, and its bytes are a file that starts so
+pub record Prepared (tree : Option (List Entry)) (words : List (List ℕ)) (elf : Image) : Type 0 where
+  pub folder : List ℕ
+  pub program : List ℕ
+  pub bytes : List ℕ
+  pub solo : IsSolo words folder program
+  pub found : Found tree program bytes
+  pub elf_is : reading bytes ≡ Ok elf
+
+-- The words, the folder and the number of devices give a start, and the journal's events are a run from it: each is
+-- enabled after those before it. They number at most the budget.
+pub record Journeys (tree : Option (List Entry)) (words : List (List ℕ)) (devices : ℕ) (journal : History) (last : Machine) : Type 0 where
+  pub elf : Image
+  pub prepared : Prepared tree words elf
+  pub enabled : run (Some (started elf devices)) journal.events ≡ Some last
+  pub within : length journal.events ≤ journal.budget
+  pub budget_is : journal.budget ≡ budget
+
+-- what a run that came to an end answers
+pub record Finishes {D : Type 0} (held : D → Option (List ℕ)) (tree : Option (List Entry)) (words : List (List ℕ)) (before : List D) (end : End) (status : ℕ) (journal : History) (after : List D) : Type 0 where
+  pub last : Machine
+  pub journeys : Journeys tree words (length before) journal last
+  pub end_is : IsEnd last.end (length journal.events) budget end
+  pub status_is : status ≡ status_of end
+  -- each device holds what it held, and its output behind that
+  pub all_sent : map held after ≡ sent (map held before) last.shared.outputs
+
+-- a run from a core, with the journal under the budget
+pub record RunsFrom (core : Machine) (journal : History) (last : Machine) : Type 0 where
+  pub enabled : run (Some core) journal.events ≡ Some last
+  pub within : length journal.events ≤ journal.budget
+  pub budget_is : journal.budget ≡ budget
+
+-- the same of a run from a core
+pub record CoreFinishes {D : Type 0} (held : D → Option (List ℕ)) (core : Machine) (before : List D) (end : End) (status : ℕ) (journal : History) (after : List D) : Type 0 where
+  pub last : Machine
+  pub runs : RunsFrom core journal last
+  pub end_is : IsEnd last.end (length journal.events) budget end
+  pub status_is : status ≡ status_of end
+  pub all_sent : map held after ≡ sent (map held before) last.shared.outputs
+
+abbrev pub CoreStops : {D : Type 0} → (D → Option (List ℕ)) → (D → ℕ) → Machine → List D → Halt → History → List D → Type 0
+CoreStops held writes core before (halts.Device device) journal after =
+    (last : Machine) × RunsFrom core journal last
+    × SentUpTo (map held before) last.shared.outputs device (map held after)
+    × (device < length before)
+    × Rose (slice_index (map writes before) device) (slice_index (map writes after) device)
+CoreStops held writes core before halts.Memory journal after =
+    (last : Machine) × RunsFrom core journal last × (map held after ≡ sent (map held before) last.shared.outputs)
+
+-- nothing was started
+pub record Untouched {D : Type 0} (before : List D) (journal : History) (after : List D) : Type 0 where
+  pub no_event : journal.events ≡ []
+  pub devices : after ≡ before
+
+-- a run that a device stopped: it holds a beginning of its output, and each other device all of its own
+pub record StoppedBy {D : Type 0} (held : D → Option (List ℕ)) (writes : D → ℕ) (device : ℕ) (tree : Option (List Entry)) (words : List (List ℕ)) (before : List D) (journal : History) (after : List D) : Type 0 where
+  pub last : Machine
+  pub journeys : Journeys tree words (length before) journal last
+  pub sent_up_to : SentUpTo (map held before) last.shared.outputs device (map held after)
+  pub is_device : device < length before
+  pub rose : Rose (slice_index (map writes before) device) (slice_index (map writes after) device)
+
+-- a run that want of memory stopped
+pub record Wants {D : Type 0} (held : D → Option (List ℕ)) (tree : Option (List Entry)) (words : List (List ℕ)) (before : List D) (journal : History) (after : List D) : Type 0 where
+  pub last : Machine
+  pub journeys : Journeys tree words (length before) journal last
+  pub all_sent : map held after ≡ sent (map held before) last.shared.outputs
+
+-- why no start was made. Want of memory is free
+abbrev pub Unprepared : Option (List Entry) → ℕ → ℕ → List (List ℕ) → Cause → Type 0
+Unprepared tree reads_before reads_after words (causes.Usage word) = IsFirstWrong words word
+Unprepared tree reads_before reads_after words (causes.NoProgram program) =
+    (folder : List ℕ) × IsSolo words folder program
+    × ((listing : List Listed) × Lists tree listing × (HasProgram listing program → ⊥))
+Unprepared tree reads_before reads_after words (causes.Elf fault) =
+    (folder : List ℕ) × (program : List ℕ) × (bytes : List ℕ) × IsSolo words folder program
+    × Found tree program bytes × (reading bytes ≡ Err fault) × (fault ≢ elf_faults.Memory)
+Unprepared tree reads_before reads_after words (causes.ReadFault parts.Folder) =
+    IsAccepted words × Rose reads_before reads_after
+Unprepared tree reads_before reads_after words (causes.ReadFault (parts.Device device)) = ⊥
+Unprepared tree reads_before reads_after words (causes.ReadFault parts.Notes) = ⊥
+Unprepared tree reads_before reads_after words (causes.WriteFault part) = ⊥
+Unprepared tree reads_before reads_after words causes.Memory = Unit {0}
+
+-- each cause of a fault, and what it leaves
+abbrev pub IsCaused : {D : Type 0} → (D → Option (List ℕ)) → (D → ℕ) → Option (List Entry) → ℕ → ℕ → List (List ℕ) → List D → Cause → History → List D → Type 0
+IsCaused held writes tree reads_before reads_after words before (causes.WriteFault (parts.Device device)) journal after =
+    StoppedBy held writes device tree words before journal after
+IsCaused held writes tree reads_before reads_after words before (causes.WriteFault parts.Folder) journal after = ⊥
+IsCaused held writes tree reads_before reads_after words before (causes.WriteFault parts.Notes) journal after = ⊥
+IsCaused held writes tree reads_before reads_after words before causes.Memory journal after =
+    Untouched before journal after ⊎ Wants held tree words before journal after
+IsCaused held writes tree reads_before reads_after words before cause journal after =
+    Unprepared tree reads_before reads_after words cause × Untouched before journal after
+
+-- the status of the program at a fault
+abbrev pub fault_status : Cause → ℕ
+fault_status (causes.Usage word) = 64
+fault_status (causes.NoProgram program) = 66
+fault_status (causes.Elf fault) = 65
+fault_status (causes.ReadFault part) = 74
+fault_status (causes.WriteFault part) = 74
+fault_status causes.Memory = 70
+
+-- the cause that stopped a run
+abbrev pub halt_cause : Halt → Cause
+halt_cause (halts.Device device) = causes.WriteFault (parts.Device device)
+halt_cause halts.Memory = causes.Memory

@@ -1,0 +1,47 @@
+use crate::text::Text;
+use elf_file::ElfFault;
+
+/// An object outside the program.
+#[derive(Clone, Copy, Debug, PartialEq, Eq)]
+pub enum Part {
+    Folder,
+    /// The device of this number.
+    Device(usize),
+    Notes,
+}
+
+/// Why the program gives up.
+#[derive(Drop)]
+pub enum Cause {
+    /// The word of this index is the first wrong one, or the first missing one.
+    Usage { word: usize },
+    /// The folder has no file of this name that could be run.
+    NoProgram(Text),
+    /// The program is no file that can be loaded.
+    Elf(ElfFault),
+    /// Reading failed.
+    ReadFault(Part),
+    /// Writing failed.
+    WriteFault(Part),
+    /// Want of memory.
+    Memory,
+}
+
+impl Cause {
+    ghost use Rattle.std.specs.Prelude.{◌≡◌};
+    ghost use Rattle.emu_top.specs.Solo.{fault_status};
+
+    /// The status with which the program ends.
+    pub fn status(&self) -> u8
+        ensures { result ≡ fault_status self.now }
+    {
+        match self {
+            Cause::Usage { .. } => 64,
+            Cause::NoProgram(_) => 66,
+            Cause::Elf(_) => 65,
+            Cause::ReadFault(_) => 74,
+            Cause::WriteFault(_) => 74,
+            Cause::Memory => 70,
+        }
+    }
+}

@@ -1,0 +1,127 @@
+ghost use Rattle.std.specs.Prelude.{◌≡◌, ◌≤◌, ◌<◌, ◌+◌, ◌^◌, ◌++◌, ◌∷◌, [], length, vec_len, vec_capacity, IfSome, OnOk};
+ghost use Rattle.emu_top.specs.Journal.{counted, all_counted};
+
+use guest_core::Event;
+use std::alloc::{AllocError, Global};
+use std::marker::Model;
+
+/// An entry of a journal.
+#[derive(Clone, Copy, Debug, PartialEq, Eq)]
+pub enum Entry {
+    /// A thread's steps that follow each other.
+    Steps { thread: u32, count: u32 },
+}
+
+/// The events of a run in their order. Contracts see them counted out.
+#[derive(Drop)]
+pub struct Journal {
+    budget: u32,
+    entries: Vec<Entry>,
+    count: u32,
+}
+
+impl Model for Journal {
+    ghost use Rattle.std.specs.Prelude.{◌≡◌, ◌-◌, length, vec_len, vec_capacity};
+    ghost use Rattle.emu_top.specs.Journal.{History, all_counted};
+
+    ghost Value = { History };
+
+    ghost view = { λ journal. record { budget = journal.budget; events = all_counted journal.entries.items; room = vec_capacity journal.entries - vec_len journal.entries } };
+
+    ghost invariant = { λ journal. journal.count ≡ length (all_counted journal.entries.items) };
+}
+
+impl Journal {
+    /// No event, under a budget of events.
+    pub fn new(alloc: Global, budget: u32) -> Journal
+        ensures events { result.events ≡ [] }
+        ensures budget { result.budget ≡ budget }
+    {
+        Journal {
+            budget,
+            entries: Vec::new(alloc),
+            count: 0,
+        }
+    }
+
+    pub fn budget(&self) -> u32
+        ensures { result ≡ self.now.budget }
+    {
+        self.budget
+    }
+
+    /// The number of events.
+    pub fn count(&self) -> u32
+        ensures { result ≡ length self.now.events }
+    {
+        self.count
+    }
+
+    pub fn entries(&self) -> &[Entry] {
+        self.entries.as_slice()
+    }
+
+    /// Makes room for an event.
+    pub fn reserve(&mut self) -> Result<(), AllocError>
+        ensures ok { OnOk result (0 < self.new.room) }
+        ensures events { self.new.events ≡ self.old.events }
+        ensures budget { self.new.budget ≡ self.old.budget }
+    {
+        self.entries.reserve(1)
+    }
+
+    /// Adds an event at the end. It takes no memory.
+    pub fn note(&mut self, event: Event)
+        requires room { 0 < self.old.room }
+        requires count { length self.old.events + 1 < 2 ^ 32 }
+        ensures events { self.new.events ≡ self.old.events ++ event ∷ [] }
+        ensures budget { self.new.budget ≡ self.old.budget }
+    {
+        let Event::Step(thread) = event;
+        note_step(&mut self.entries, thread);
+        self.count += 1;
+    }
+}
+
+/// Adds a step of a thread to the last entry where that is of the same thread, else in an entry of its own.
+#[tactic(auto, using(crate::proofs::JournalFacts::last_fits, crate::proofs::JournalFacts::last_set, crate::proofs::JournalFacts::all_counted_more))]
+fn note_step(entries: &mut Vec<Entry>, thread: u32)
+    requires room { vec_len entries.old < vec_capacity entries.old }
+    requires count { length (all_counted entries.old.items) + 1 < 2 ^ 32 }
+    ensures { all_counted entries.new.items ≡ all_counted entries.old.items ++ Event.Step thread ∷ [] }
+{
+    let len = entries.len();
+    if len > 0 {
+        let last = len - 1;
+        if let Some(entry) = with_step(entries[last], thread) {
+            entries[last] = entry;
+            return;
+        }
+    }
+    match entries.push(Entry::Steps { thread, count: 1 }) {
+        Ok(()) => {}
+        Err(_) => unreachable!(),
+    }
+}
+
+/// The entry with one more step, where it is of the same thread.
+fn with_step(entry: Entry, thread: u32) -> Option<Entry>
+    requires { length (counted entry) + 1 < 2 ^ 32 }
+    ensures { IfSome result (λ longer. counted longer ≡ counted entry ++ Event.Step thread ∷ []) }
+{
+    match entry {
+        Entry::Steps {
+            thread: last,
+            count,
+        } => {
+            if last == thread {
+                Some(Entry::Steps {
+                    thread,
+                    count: count + 1,
+                })
+            } else {
+                None
+            }
+        }
+    }
+}

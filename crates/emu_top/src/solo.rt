@@ -1,0 +1,121 @@
+//! The schedule of `solo`: one step after another, each followed by what it wrote.
+
+ghost use Rattle.std.specs.Prelude.{◌≡◌, ◌≤◌, ◌<◌, ◌+◌, ◌^◌, ◌++◌, ◌∷◌, [], ℕ, None, Some, Err, map, length, take, slice_index, slice_index_or, slice_set, OnOk, OnErr, IfOk, IfErr};
+ghost use Rattle.guest_core.specs.Event.{first_thread, event_after};
+ghost use Rattle.guest_core.specs.Growth.{lengthens, Lengthened};
+ghost use Rattle.emu_top.specs.Told.{more, Rose};
+ghost use Rattle.emu_top.specs.Sending.{NoneFell};
+ghost use Rattle.emu_top.specs.Running.{Stepped, KeepsSent, Halted, Ended, Stopped};
+
+use crate::device::{Device, DeviceFailed};
+use crate::journal::Journal;
+use guest_core::{Core, End, Event, FIRST_THREAD};
+use std::alloc::AllocError;
+
+/// A run: the core, the events that it made, and the devices, which hold what the core wrote.
+#[derive(Drop)]
+pub struct Run<D: Device> {
+    pub core: Core,
+    pub journal: Journal,
+    pub devices: Vec<D>,
+}
+
+/// Why a run stopped before its end.
+#[derive(Clone, Copy, Debug, PartialEq, Eq)]
+pub enum Halt {
+    /// A write to this device failed.
+    Device(usize),
+    /// Want of memory.
+    Memory,
+}
+
+/// Makes the next step and notes it. After want of memory nothing was made.
+fn advance(core: &mut Core, journal: &mut Journal) -> Result<(), AllocError>
+    requires lives { core.old.end ≡ None }
+    requires count { length journal.old.events + 1 < 2 ^ 32 }
+    ensures event { OnOk result (event_after core.old (Event.Step first_thread) ≡ Some core.new) }
+    ensures noted { OnOk result (journal.new.events ≡ journal.old.events ++ Event.Step first_thread ∷ []) }
+    ensures outputs { OnOk result (Lengthened (lengthens core.old (Event.Step first_thread)) core.old.shared.outputs core.new.shared.outputs) }
+    ensures stays { OnErr result (core.new ≡ core.old) }
+    ensures unnoted { OnErr result (journal.new.events ≡ journal.old.events) }
+    ensures budget { journal.new.budget ≡ journal.old.budget }
+{
+    let event = Event::Step(FIRST_THREAD);
+    journal.reserve()?;
+    match core.event(&event) {
+        Ok(()) => {
+            journal.note(event);
+            Ok(())
+        }
+        Err(_) => Err(AllocError),
+    }
+}
+
+/// Sends bytes to a device.
+fn send<D: Device>(devices: &mut Vec<D>, device: usize, bytes: &[u8]) -> Result<(), DeviceFailed>
+    requires { device < length devices.old.items }
+    ensures ok { OnOk result (map D.held devices.new.items ≡ slice_set (map D.held devices.old.items) device (more (slice_index_or (map D.held devices.old.items) device None) bytes.now)) }
+    ensures beginning { OnErr result ((count : ℕ) × (count ≤ length bytes.now)
+        × (map D.held devices.new.items ≡ slice_set (map D.held devices.old.items) device (more (slice_index_or (map D.held devices.old.items) device None) (take count bytes.now)))) }
+    ensures none_fell { NoneFell (map D.failed_writes devices.old.items) (map D.failed_writes devices.new.items) }
+    ensures rose { OnErr result (Rose (slice_index (map D.failed_writes devices.old.items) device) (slice_index (map D.failed_writes devices.new.items) device)) }
+    ensures count { length devices.new.items ≡ length devices.old.items }
+{
+    devices[device].take(bytes)
+}
+
+/// Makes a step, and sends what it wrote to its device.
+fn turn<D: Device>(run: &mut Run<D>) -> Result<(), Halt>
+    requires lives { run.old.core.end ≡ None }
+    requires count { length run.old.journal.events + 1 < 2 ^ 32 }
+    requires devices { length run.old.devices.items ≡ length run.old.core.shared.outputs }
+    ensures stepped { OnOk result (Stepped run.old run.new) }
+    ensures sent { OnOk result (KeepsSent D.held run.old run.new) }
+    ensures halted { IfErr result (λ halt. Halted D.held D.failed_writes halt run.old run.new) }
+    ensures none_fell { NoneFell (map D.failed_writes run.old.devices.items) (map D.failed_writes run.new.devices.items) }
+    ensures devices { length run.new.devices.items ≡ length run.old.devices.items }
+    ensures outputs { length run.new.core.shared.outputs ≡ length run.old.core.shared.outputs }
+    ensures budget { run.new.journal.budget ≡ run.old.journal.budget }
+{
+    match run.core.lengthens(&Event::Step(FIRST_THREAD)) {
+        None => match advance(&mut run.core, &mut run.journal) {
+            Ok(()) => Ok(()),
+            Err(_) => Err(Halt::Memory),
+        },
+        Some(device) => {
+            let before = run.core.output(device).len();
+            if advance(&mut run.core, &mut run.journal).is_err() {
+                return Err(Halt::Memory);
+            }
+            let fresh = &run.core.output(device)[before..];
+            match send(&mut run.devices, device, fresh) {
+                Ok(()) => Ok(()),
+                Err(DeviceFailed) => Err(Halt::Device(device)),
+            }
+        }
+    }
+}
+
+/// Makes steps until the process has ended or the budget is spent.
+pub fn run_to_end<D: Device>(run: &mut Run<D>) -> Result<End, Halt>
+    requires fresh { run.old.journal.events ≡ [] }
+    requires devices { length run.old.devices.items ≡ length run.old.core.shared.outputs }
+    ensures ended { IfOk result (λ end. Ended D.held end run.old run.new) }
+    ensures stopped { IfErr result (λ halt. Stopped D.held D.failed_writes halt run.old run.new) }
+    ensures none_fell { NoneFell (map D.failed_writes run.old.devices.items) (map D.failed_writes run.new.devices.items) }
+    ensures devices { length run.new.devices.items ≡ length run.old.devices.items }
+{
+    for _ in 0..run.journal.budget() {
+        if let Some(end) = run.core.ended() {
+            return Ok(end);
+        }
+        match turn(run) {
+            Ok(()) => {}
+            Err(halt) => return Err(halt),
+        }
+    }
+    match run.core.ended() {
+        Some(end) => Ok(end),
+        None => Ok(End::Budget),
+    }
+}

@@ -1,0 +1,406 @@
+ghost use Rattle.std.specs.Prelude.{◌≡◌, length, IfOk};
+
+use crate::cause::{Cause, Part};
+use crate::device::{Device, DeviceFailed};
+use crate::folder::{Entry as FolderEntry, Kind};
+use crate::journal::{Entry, Journal};
+use crate::memory_device::MemDevice;
+use crate::memory_folder::MemFolder;
+use crate::memory_sink::MemSink;
+use crate::sink::{Sink, SinkFailed};
+use crate::text::Text;
+use crate::top::{Finished, TopFault, solo_top};
+use elf_file::{Bytes, ElfFault};
+use guest_core::End;
+use std::alloc::{AllocError, Global};
+use std::test::Fail;
+
+/// Ends with 7.
+const EXITS: [u32; 3] = [0x0070_0513, 0x05E0_0893, 0x0000_0073];
+
+/// Writes `hi` and a newline to descriptor 1, and ends with 0.
+const WRITES_HI: [u32; 9] = [
+    0x0001_05B7,
+    0x0245_8593,
+    0x0010_0513,
+    0x0030_0613,
+    0x0400_0893,
+    0x0000_0073,
+    0x0000_0533,
+    0x05E0_0893,
+    0x0000_0073,
+];
+
+/// Writes the first two and then the next two of its data's bytes to descriptor 1, and ends with 0.
+const WRITES_TWICE: [u32; 12] = [
+    0x0001_05B7,
+    0x0305_8593,
+    0x0010_0513,
+    0x0020_0613,
+    0x0400_0893,
+    0x0000_0073,
+    0x0010_0513,
+    0x0025_8593,
+    0x0000_0073,
+    0x0000_0513,
+    0x05E0_0893,
+    0x0000_0073,
+];
+
+/// A file whose one segment has these words and bytes at 0x10000, from offset 4096 on.
+fn file_of(alloc: Global, words: &[u32], data: &[u8]) -> Result<Vec<u8>, AllocError> {
+    let mut bytes = Vec::new(alloc);
+    // 64 bits, little-endian, version 1; type 2, machine 243, version 1; the entry
+    bytes.extend_from_slice(&[0x7F, b'E', b'L', b'F', 2, 1, 1, 0, 0, 0, 0, 0, 0, 0, 0, 0])?;
+    bytes.extend_from_slice(&[2, 0, 243, 0, 1, 0, 0, 0])?;
+    bytes.extend_from_slice(&0x10000u64.to_le_bytes())?;
+    // the program headers at 64, no sections; flags 1, sizes, one program header
+    bytes.extend_from_slice(&64u64.to_le_bytes())?;
+    bytes.extend_from_slice(&0u64.to_le_bytes())?;
+    bytes.extend_from_slice(&[1, 0, 0, 0, 64, 0, 56, 0, 1, 0, 0, 0, 0, 0, 0, 0])?;
+    // loaded, readable and executable
+    bytes.extend_from_slice(&[1, 0, 0, 0, 5, 0, 0, 0])?;
+    let size = words.len().saturating_mul(4).saturating_add(data.len()) as u64;
+    for field in [4096, 0x10000, 0x10000, size, size, 4096] {
+        bytes.extend_from_slice(&field.to_le_bytes())?;
+    }
+    bytes.resize(4096, 0)?;
+    for word in words {
+        bytes.extend_from_slice(&word.to_le_bytes())?;
+    }
+    bytes.extend_from_slice(data)?;
+    Ok(bytes)
+}
+
+/// Three devices, of which device 1 fails at the takes of these numbers.
+fn devices(alloc: Global, failing_takes: Vec<u64>) -> Result<Vec<MemDevice>, AllocError>
+    ensures { IfOk result (λ devices. length devices.items ≡ 3) }
+{
+    let mut devices = Vec::new(alloc);
+    devices.push(device(alloc, Vec::new(alloc)))?;
+    devices.push(device(alloc, failing_takes))?;
+    devices.push(device(alloc, Vec::new(alloc)))?;
+    Ok(devices)
+}
+
+fn device(alloc: Global, failing_takes: Vec<u64>) -> MemDevice {
+    MemDevice::new(alloc, Vec::new(alloc), Vec::new(alloc), failing_takes)
+}
+
+/// What a device of a list holds.
+fn contents(devices: &[MemDevice], device: usize) -> &[u8] {
+    match devices.get(device) {
+        Some(device) => device.contents(),
+        None => &[],
+    }
+}
+
+/// A folder of the file `p`, and of an entry `d` that is no file.
+fn folder(
+    alloc: Global,
+    bytes: Vec<u8>,
+    failing_lists: Vec<u64>,
+    failing_reads: Vec<u64>,
+) -> Result<MemFolder, AllocError> {
+    let mut entries = Vec::new(alloc);
+    entries.push(FolderEntry {
+        path: Text::new(alloc, "d")?,
+        kind: Kind::Dir,
+        bytes: Bytes::new(alloc),
+    })?;
+    entries.push(FolderEntry {
+        path: Text::new(alloc, "p")?,
+        kind: Kind::File,
+        bytes: Bytes::from_vec(bytes),
+    })?;
+    Ok(MemFolder::new(entries, failing_lists, failing_reads))
+}
+
+fn words_of(alloc: Global, words: &[&str]) -> Result<Vec<String>, AllocError> {
+    let mut list = Vec::new(alloc);
+    for word in words {
+        list.push(String::from_str(alloc, word)?)?;
+    }
+    Ok(list)
+}
+
+type Answer = Result<Finished<MemDevice>, TopFault<MemDevice>>;
+
+/// The answer for words, over three devices.
+fn answer(
+    alloc: Global,
+    words: &[&str],
+    folder: &mut MemFolder,
+    failing_takes: Vec<u64>,
+) -> Result<Answer, AllocError> {
+    let words = words_of(alloc, words)?;
+    let devices = devices(alloc, failing_takes)?;
+    let mut notes = MemSink::new(alloc, Vec::new(alloc));
+    Ok(solo_top(alloc, &words, folder, devices, &mut notes))
+}
+
+/// The answer for a file that is run.
+fn answer_to(alloc: Global, bytes: Vec<u8>) -> Result<Answer, AllocError> {
+    let mut folder = folder(alloc, bytes, Vec::new(alloc), Vec::new(alloc))?;
+    answer(alloc, &["solo", ".", "p"], &mut folder, Vec::new(alloc))
+}
+
+/// The number of steps of a journal that are steps of the first thread in one entry.
+fn steps(journal: &Journal) -> Option<u32> {
+    match journal.entries() {
+        [
+            Entry::Steps {
+                thread: 1000,
+                count,
+            },
+        ] => Some(*count),
+        _ => None,
+    }
+}
+
+#[test]
+fn exits_with_its_code(rt: HostRuntime) -> Result<(), Fail> {
+    let bytes = file_of(rt.alloc(), &EXITS, &[])?;
+    let Ok(finished) = answer_to(rt.alloc(), bytes)? else {
+        return Err("it finishes")?;
+    };
+    assert!(rt; matches!(finished.end, End::Exit(7)));
+    assert_eq!(rt; finished.status, 7);
+    assert_eq!(rt; steps(&finished.journal), Some(5));
+    assert_eq!(rt; finished.journal.count(), 5);
+    assert_eq!(rt; finished.journal.budget(), 4194304);
+    for device in 0..3 {
+        assert_eq!(rt; contents(&finished.devices, device), [].as_slice());
+    }
+    Ok(())
+}
+
+/// The number of the signal that ended the process.
+fn killed_by(end: &End) -> Option<u8> {
+    match end {
+        End::Killed(signal) => Some(signal.number()),
+        _ => None,
+    }
+}
+
+#[test]
+fn is_killed_at_an_illegal_instruction(rt: HostRuntime) -> Result<(), Fail> {
+    let bytes = file_of(rt.alloc(), &[0, 0x05E0_0893, 0x0000_0073], &[])?;
+    let Ok(finished) = answer_to(rt.alloc(), bytes)? else {
+        return Err("it finishes")?;
+    };
+    assert_eq!(rt; killed_by(&finished.end), Some(4));
+    assert_eq!(rt; finished.status, 132);
+    assert_eq!(rt; steps(&finished.journal), Some(3));
+    Ok(())
+}
+
+#[test]
+fn writes_to_its_device(rt: HostRuntime) -> Result<(), Fail> {
+    let bytes = file_of(rt.alloc(), &WRITES_HI, b"hi\n")?;
+    let Ok(finished) = answer_to(rt.alloc(), bytes)? else {
+        return Err("it finishes")?;
+    };
+    assert!(rt; matches!(finished.end, End::Exit(0)));
+    assert_eq!(rt; finished.status, 0);
+    assert_eq!(rt; steps(&finished.journal), Some(14));
+    assert_eq!(rt; contents(&finished.devices, 0), [].as_slice());
+    assert_eq!(rt; contents(&finished.devices, 1), b"hi\n".as_slice());
+    assert_eq!(rt; contents(&finished.devices, 2), [].as_slice());
+    Ok(())
+}
+
+#[test]
+fn a_second_program_header_is_refused(rt: HostRuntime) -> Result<(), Fail> {
+    let mut bytes = file_of(rt.alloc(), &WRITES_HI, b"hi\n")?;
+    if bytes.len() < 4096 {
+        return Err("the file has its text at 4096")?;
+    }
+    bytes[56] = 2;
+    for place in 64..120 {
+        bytes[place + 56] = bytes[place];
+    }
+    let Err(fault) = answer_to(rt.alloc(), bytes)? else {
+        return Err("it is refused")?;
+    };
+    assert!(rt; matches!(fault.cause, Cause::Elf(ElfFault::NotYet)));
+    assert_eq!(rt; fault.cause.status(), 65);
+    assert_eq!(rt; fault.journal.count(), 0);
+    Ok(())
+}
+
+#[test]
+fn a_device_fails_at_its_second_take(rt: HostRuntime) -> Result<(), Fail> {
+    let alloc = rt.alloc();
+    let bytes = file_of(alloc, &WRITES_TWICE, b"abcd")?;
+    let mut folder = folder(alloc, bytes, Vec::new(alloc), Vec::new(alloc))?;
+    let takes = vec![in alloc; 1]?;
+    let Err(fault) = answer(alloc, &["solo", ".", "p"], &mut folder, takes)? else {
+        return Err("the device fails")?;
+    };
+    assert!(rt; matches!(fault.cause, Cause::WriteFault(Part::Device(1))));
+    assert_eq!(rt; fault.cause.status(), 74);
+    // the journal ends with the event of the second write
+    assert_eq!(rt; steps(&fault.journal), Some(14));
+    assert_eq!(rt; contents(&fault.devices, 1), b"abc".as_slice());
+    assert_eq!(rt; contents(&fault.devices, 2), [].as_slice());
+    Ok(())
+}
+
+#[test]
+fn a_folder_that_fails(rt: HostRuntime) -> Result<(), Fail> {
+    let alloc = rt.alloc();
+    for (list, read) in [(0, 9), (9, 0)] {
+        let bytes = file_of(alloc, &EXITS, &[])?;
+        let mut folder = folder(alloc, bytes, vec![in alloc; list]?, vec![in alloc; read]?)?;
+        let Err(fault) = answer(alloc, &["solo", ".", "p"], &mut folder, Vec::new(alloc))? else {
+            return Err("the folder fails")?;
+        };
+        assert!(rt; matches!(fault.cause, Cause::ReadFault(Part::Folder)));
+        assert_eq!(rt; fault.cause.status(), 74);
+        assert_eq!(rt; fault.journal.count(), 0);
+        assert_eq!(rt; fault.devices.len(), 3);
+    }
+    Ok(())
+}
+
+#[test]
+fn a_program_that_is_no_file_of_the_folder(rt: HostRuntime) -> Result<(), Fail> {
+    let alloc = rt.alloc();
+    for name in ["none", "d", "d/p", "rv-p"] {
+        let bytes = file_of(alloc, &EXITS, &[])?;
+        let mut folder = folder(alloc, bytes, Vec::new(alloc), Vec::new(alloc))?;
+        let Err(fault) = answer(alloc, &["solo", ".", name], &mut folder, Vec::new(alloc))? else {
+            return Err("there is no program")?;
+        };
+        match &fault.cause {
+            Cause::NoProgram(program) => assert_eq!(rt; program.as_str(), name),
+            _ => assert!(rt; false),
+        }
+        assert_eq!(rt; fault.cause.status(), 66);
+    }
+    Ok(())
+}
+
+#[test]
+fn the_first_wrong_word(rt: HostRuntime) -> Result<(), Fail> {
+    let table: [(&[&str], usize); 14] = [
+        (&[], 0),
+        (&["run", ".", "p"], 0),
+        (&["solo"], 1),
+        (&["solo", ""], 1),
+        (&["solo", "-f", "p"], 1),
+        (&["solo", "."], 2),
+        (&["solo", ".", ""], 2),
+        (&["solo", ".", "-p"], 2),
+        (&["solo", ".", "/p"], 2),
+        (&["solo", ".", "d/"], 2),
+        (&["solo", ".", "d//p"], 2),
+        (&["solo", ".", "d/../p"], 2),
+        (&["solo", ".", "./p"], 2),
+        (&["solo", ".", "p", "p"], 3),
+    ];
+    for (words, index) in table {
+        let bytes = file_of(rt.alloc(), &EXITS, &[])?;
+        let mut folder = folder(
+            rt.alloc(),
+            bytes,
+            Vec::new(rt.alloc()),
+            Vec::new(rt.alloc()),
+        )?;
+        let Err(fault) = answer(rt.alloc(), words, &mut folder, Vec::new(rt.alloc()))? else {
+            return Err("the words are wrong")?;
+        };
+        match fault.cause {
+            Cause::Usage { word } => assert_eq!(rt; word, index),
+            _ => assert!(rt; false),
+        }
+        assert_eq!(rt; fault.cause.status(), 64);
+    }
+    Ok(())
+}
+
+/// Makes the call whose number, descriptor, address and length are given, and ends with the answer's low byte.
+fn calls(number: u32, descriptor: u32, address: u32, length: u32) -> [u32; 7] {
+    [
+        // addi a7, x0, number and so on
+        (number % 2048) << 20 | 0x893,
+        (descriptor % 2048) << 20 | 0x513,
+        (address % 0x10_0000) << 12 | 0x5B7,
+        (length % 2048) << 20 | 0x613,
+        0x0000_0073,
+        0x05E0_0893,
+        0x0000_0073,
+    ]
+}
+
+#[test]
+fn answers_of_calls(rt: HostRuntime) -> Result<(), Fail> {
+    // write of no byte, of two bytes, to no device, from no memory, from memory that ends; and no call
+    let table = [
+        (64, 1, 0x10, 0, 0),
+        (64, 2, 0x10, 2, 2),
+        (64, 3, 0x10, 2, 256 - 9),
+        (64, 3, 0x20, 2, 256 - 9),
+        (64, 1, 0x20, 2, 256 - 14),
+        (64, 1, 0x10, 29, 256 - 14),
+        (1000, 1, 0x10, 2, 256 - 38),
+    ];
+    for (number, descriptor, address, length, status) in table {
+        let words = calls(number, descriptor, address, length);
+        let bytes = file_of(rt.alloc(), &words, &[])?;
+        let Ok(finished) = answer_to(rt.alloc(), bytes)? else {
+            return Err("it finishes")?;
+        };
+        assert_eq!(rt;
+            u32::from(finished.status),
+            status,
+            "{number} {descriptor} {address} {length}"
+        );
+    }
+    Ok(())
+}
+
+#[test]
+fn is_killed_behind_its_code(rt: HostRuntime) -> Result<(), Fail> {
+    let bytes = file_of(rt.alloc(), &[0x0070_0513], &[])?;
+    let Ok(finished) = answer_to(rt.alloc(), bytes)? else {
+        return Err("it finishes")?;
+    };
+    assert_eq!(rt; killed_by(&finished.end), Some(11));
+    assert_eq!(rt; finished.status, 139);
+    assert_eq!(rt; steps(&finished.journal), Some(4));
+    Ok(())
+}
+
+#[test]
+fn the_budget_is_spent(rt: HostRuntime) -> Result<(), Fail> {
+    let words = vec![in rt.alloc(); 0x0000_0013; 4194304]?;
+    let bytes = file_of(rt.alloc(), &words, &[])?;
+    let Ok(finished) = answer_to(rt.alloc(), bytes)? else {
+        return Err("it finishes")?;
+    };
+    assert!(rt; matches!(finished.end, End::Budget));
+    assert_eq!(rt; finished.status, 75);
+    assert_eq!(rt; steps(&finished.journal), Some(4194304));
+    Ok(())
+}
+
+#[test]
+fn objects_in_memory(rt: HostRuntime) -> Result<(), Fail> {
+    let alloc = rt.alloc();
+    let input = b"abc".to_vec(alloc)?;
+    let mut device = MemDevice::new(alloc, input, vec![in alloc; 1]?, Vec::new(alloc));
+    let mut buffer = [0; 2];
+    assert_eq!(rt; device.give(&mut buffer), Ok(2));
+    assert_eq!(rt; buffer, *b"ab");
+    assert_eq!(rt; device.give(&mut buffer), Err(DeviceFailed));
+    assert_eq!(rt; device.give(&mut buffer), Ok(1));
+    assert_eq!(rt; buffer, *b"cb");
+    assert_eq!(rt; device.give(&mut buffer), Ok(0));
+    let mut sink = MemSink::new(alloc, vec![in alloc; 1]?);
+    assert_eq!(rt; sink.put(b"ab"), Ok(()));
+    assert_eq!(rt; sink.put(b"cd"), Err(SinkFailed));
+    assert_eq!(rt; sink.contents(), b"abc".as_slice());
+    Ok(())
+}

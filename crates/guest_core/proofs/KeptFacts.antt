@@ -1,0 +1,283 @@
+-- That every row keeps what every state keeps.
+use Rattle.std.proofs.Common.{◌≡◌, ◌≢◌, ℕ, ◌==◌, Bool, true, false, cond, ℤ, List, [], ◌∷◌, Option, Some, None, Result, Ok, Err, OnOk, OnErr, slice_index, slice_set, refl, ◌∙◌, arith, get_or-set_other}
+use Rattle.std.proofs.lemmas.Grind.{common_steps}
+use Rattle.isa_decode.specs.declared.instruction.Instr.{Instr}
+use Rattle.isa_decode.specs.declared.instruction.Instr.TheVariants.{Lui, OpImm, Op, Ecall}
+use Rattle.isa_decode.specs.declared.instruction.ImmOp.TheVariants.{Addi}
+use Rattle.isa_decode.specs.declared.instruction.AluOp.TheVariants.{Add}
+use Rattle.isa_decode.specs.Listing.{decoding}
+use Rattle.guest_core.specs.declared.places.Place.{Place}
+use Rattle.guest_core.specs.declared.places.Place.TheVariants.{Loop, Start, Window, Done}
+use Rattle.guest_core.specs.declared.queue.Instance.{Instance}
+use Rattle.guest_core.specs.declared.registers.Regs.{Regs}
+use Rattle.guest_core.specs.Memory.{Range}
+use Rattle.guest_core.specs.Pending.{first_new, first_of, is_empty}
+use Rattle.guest_core.specs.Registers.{with_register, after_four}
+use Rattle.guest_core.specs.Instruction as step
+use Rattle.guest_core.specs.Call as call
+use Rattle.guest_core.specs.Machine.{Shared, Machine, due}
+use Rattle.guest_core.specs.Rows.{Row, Note, Take, ClearFlag, Execute, Check, Enter, Return, note_or, take_or, row_at, flagged_row, row_of, done, noted_at, noted, taken, flag_cleared, after, executed, checked, after_call, entered, returned, stepped, ticked}
+use Rattle.guest_core.specs.Kept.{Keeps, has_id, all_have}
+use Rattle.guest_core.proofs.Noted.{found_has_id, all_have_more, all_have_left}
+
+-- ---- register 0
+
+set_zero_by : (test : Bool) (number value : ℕ) (regs : Regs) → (number == 0) ≡ test → slice_index (cond test regs (record { pc = regs.pc; x = slice_set regs.x number value })).x 0 ≡ slice_index regs.x 0
+set_zero_by true number value regs e = refl
+set_zero_by false number value regs e =
+    let apart : 0 ≢ number = grind (arith, common_steps) in
+    get_or-set_other regs.x number 0 value 0 apart
+
+zero_kept : (number value : ℕ) (regs : Regs) → slice_index (with_register number value regs).x 0 ≡ slice_index regs.x 0
+unfolding with_register
+zero_kept number value regs = set_zero_by (number == 0) number value regs refl
+
+-- ---- what the rows ask
+
+-- what is known of a state that the row fits
+abbrev pub Fits : Row → Machine → Type 0
+Fits (Note instance) machine = has_id (due machine.shared) instance.id ≡ true
+Fits (Take instance) machine = Unit {0}
+Fits ClearFlag machine = machine.noted ≡ []
+Fits Execute machine = (machine.place ≡ Loop) × (machine.flag ≡ false)
+Fits Check machine = machine.place ≡ Start
+Fits Enter machine = machine.place ≡ Window
+Fits (Return answer) machine = Unit {0}
+
+flagged_by : (noted : List ℕ) (due : List Instance) (machine : Machine) → machine.noted ≡ noted → all_have noted due ≡ true → Fits (cond (is_empty noted) ClearFlag (take_or (first_of due) ClearFlag)) machine
+flagged_by [] due machine same all = same
+flagged_by (id ∷ noted) [] machine same all = cc
+flagged_by (id ∷ noted) (instance ∷ due) machine same all = tt
+
+flagged_fits : (machine : Machine) → Keeps machine → Fits (flagged_row machine) machine
+unfolding flagged_row
+flagged_fits machine keeps = flagged_by machine.noted (due machine.shared) machine refl keeps.noted_due
+
+loop_by : (flag : Bool) (machine : Machine) → machine.flag ≡ flag → machine.place ≡ Loop → Keeps machine → Fits (cond flag (flagged_row machine) Execute) machine
+loop_by true machine flag place keeps = flagged_fits machine keeps
+loop_by false machine flag place keeps = (place, flag)
+
+row_at_fits : (place : Place) (machine : Machine) → machine.place ≡ place → Keeps machine → Fits (row_at place machine) machine
+row_at_fits Loop machine place keeps = loop_by machine.flag machine refl place keeps
+row_at_fits Start machine place keeps = place
+row_at_fits Window machine place keeps = place
+row_at_fits (Done answer) machine place keeps = tt
+
+note_or_fits : (new : Option Instance) (row : Row) (machine : Machine) → first_new (due machine.shared) machine.noted ≡ new → Fits row machine → Fits (note_or new row) machine
+note_or_fits None row machine none fits = fits
+note_or_fits (Some instance) row machine some fits = found_has_id _ (due machine.shared) instance some
+
+pub row_fits : (machine : Machine) → Keeps machine → Fits (row_of machine) machine
+unfolding row_of
+row_fits machine keeps =
+    note_or_fits (first_new (due machine.shared) machine.noted) (row_at machine.place machine) machine refl (row_at_fits machine.place machine refl keeps)
+
+-- ---- each row keeps
+
+not_window : (place : Place) → noted_at place ≢ Window
+not_window Loop same = cc
+not_window Start same = cc
+not_window Window same = cc
+not_window (Done answer) same = cc
+
+was_not_loop : (place : Place) → noted_at place ≢ Loop → place ≢ Loop
+was_not_loop Loop apart same = apart refl
+was_not_loop Start apart same = cc
+was_not_loop Window apart same = cc
+was_not_loop (Done answer) apart same = cc
+
+note_keeps : (instance : Instance) (machine : Machine) → Keeps machine → has_id (due machine.shared) instance.id ≡ true → Keeps (noted instance machine)
+unfolding noted
+note_keeps instance machine keeps has = record {
+  noted_due = all_have_more machine.noted instance.id (due machine.shared) keeps.noted_due has;
+  flag_set = λ clear. cc;
+  window_clear = λ window. absurd (not_window machine.place window);
+  at_call = λ apart. keeps.at_call (was_not_loop machine.place apart);
+  zero = keeps.zero;
+}
+
+take_keeps : (instance : Instance) (machine : Machine) → Keeps machine → Keeps (taken instance machine)
+unfolding taken
+take_keeps instance machine keeps = record {
+  noted_due = all_have_left machine.noted instance.id (due machine.shared) keeps.noted_due;
+  flag_set = λ clear. rw (keeps.flag_set clear) refl;
+  window_clear = keeps.window_clear;
+  at_call = keeps.at_call;
+  zero = keeps.zero;
+}
+
+clear_keeps : (machine : Machine) → Keeps machine → machine.noted ≡ [] → Keeps (flag_cleared machine)
+unfolding flag_cleared
+clear_keeps machine keeps none = record {
+  noted_due = keeps.noted_due;
+  flag_set = λ clear. none;
+  window_clear = λ window. refl;
+  at_call = keeps.at_call;
+  zero = keeps.zero;
+}
+
+check_by : (flag : Bool) (machine : Machine) → machine.flag ≡ flag → Keeps machine → machine.place ≡ Start → Keeps (record machine { place = cond flag Loop Window })
+check_by true machine flag keeps start = record {
+  noted_due = keeps.noted_due;
+  flag_set = keeps.flag_set;
+  window_clear = λ window. cc;
+  at_call = λ apart. absurd (apart refl);
+  zero = keeps.zero;
+}
+check_by false machine flag keeps start = record {
+  noted_due = keeps.noted_due;
+  flag_set = keeps.flag_set;
+  window_clear = λ window. flag;
+  at_call = λ apart. keeps.at_call (λ loop. cc);
+  zero = keeps.zero;
+}
+
+check_keeps : (machine : Machine) → Keeps machine → machine.place ≡ Start → Keeps (checked machine)
+unfolding checked
+check_keeps machine keeps start = check_by machine.flag machine refl keeps start
+
+return_keeps : (answer : ℤ) (machine : Machine) → Keeps machine → Keeps (returned answer machine)
+unfolding returned after_four
+return_keeps answer machine keeps = record {
+  noted_due = keeps.noted_due;
+  flag_set = keeps.flag_set;
+  window_clear = λ window. cc;
+  at_call = λ apart. absurd (apart refl);
+  zero = zero_kept 10 _ machine.regs ∙ keeps.zero;
+}
+
+-- ---- instructions
+
+runs_by : (rd value : ℕ) (regs after : Regs) → step.Outcome.Runs (after_four (with_register rd value regs)) ≡ step.Outcome.Runs after → slice_index after.x 0 ≡ slice_index regs.x 0
+unfolding after_four
+runs_by rd value regs after same =
+    let equal : after ≡ after_four (with_register rd value regs) = cc in
+    rw equal (zero_kept rd value regs)
+
+runs_zero : (instr : Instr) (regs after : Regs) → step.executed instr regs ≡ step.Outcome.Runs after → slice_index after.x 0 ≡ slice_index regs.x 0
+unfolding step.executed after_four
+runs_zero (Lui rd imm) regs after same = runs_by rd _ regs after same
+runs_zero (OpImm Addi rd rs1 imm) regs after same = runs_by rd _ regs after same
+runs_zero (Op Add rd rs1 rs2) regs after same = runs_by rd _ regs after same
+runs_zero Ecall regs after same = cc
+
+decoded_zero : (instr : Option Instr) (regs after : Regs) → step.of_instruction instr regs ≡ step.Outcome.Runs after → slice_index after.x 0 ≡ slice_index regs.x 0
+decoded_zero (Some instr) regs after same = runs_zero instr regs after same
+decoded_zero None regs after same = cc
+
+code_zero : (code : Result ℕ ℕ) (regs after : Regs) → step.of_code code regs ≡ step.Outcome.Runs after → slice_index after.x 0 ≡ slice_index regs.x 0
+code_zero (Ok word) regs after same = decoded_zero (decoding word) regs after same
+code_zero (Err address) regs after same = cc
+
+instruction_zero : (regs : Regs) (memory : Range) (after : Regs) → step.instruction regs memory ≡ step.Outcome.Runs after → slice_index after.x 0 ≡ slice_index regs.x 0
+unfolding step.instruction
+instruction_zero regs memory after same = code_zero (step.code_at memory regs.pc) regs after same
+
+after_keeps : (outcome : step.Outcome) (machine : Machine) → step.instruction machine.regs machine.shared.memory ≡ outcome → Keeps machine → machine.place ≡ Loop → machine.flag ≡ false → Keeps (after outcome machine)
+after_keeps (step.Outcome.Runs regs) machine same keeps loop clear = record {
+  noted_due = keeps.noted_due;
+  flag_set = keeps.flag_set;
+  window_clear = keeps.window_clear;
+  at_call = λ apart. absurd (apart loop);
+  zero = instruction_zero machine.regs machine.shared.memory regs same ∙ keeps.zero;
+}
+after_keeps step.Outcome.Calls machine same keeps loop clear = record {
+  noted_due = keeps.noted_due;
+  flag_set = keeps.flag_set;
+  window_clear = λ window. cc;
+  at_call = λ apart. same;
+  zero = keeps.zero;
+}
+after_keeps (step.Outcome.Faults fault) machine same keeps loop clear = record {
+  noted_due = rw (keeps.flag_set clear) refl;
+  flag_set = keeps.flag_set;
+  window_clear = keeps.window_clear;
+  at_call = λ apart. absurd (apart loop);
+  zero = keeps.zero;
+}
+
+execute_keeps : (machine : Machine) → Keeps machine → machine.place ≡ Loop → machine.flag ≡ false → Keeps (executed machine)
+unfolding executed
+execute_keeps machine keeps loop clear =
+    after_keeps (step.instruction machine.regs machine.shared.memory) machine refl keeps loop clear
+
+-- ---- calls
+
+-- a call leaves memory and what is pending
+record Leaves (old new : Shared) : Type 0 where
+  memory : new.memory ≡ old.memory
+  pending : new.pending ≡ old.pending
+
+written_leaves : (bad : Option ℕ) (descriptor at count : ℕ) (shared : Shared) → Leaves shared (call.written bad descriptor at count shared).shared
+written_leaves (Some bad) descriptor at count shared = record { memory = refl; pending = refl }
+written_leaves None descriptor at count shared = record { memory = refl; pending = refl }
+
+either_leaves : (test : Bool) (one other : call.Called) (shared : Shared) → Leaves shared one.shared → Leaves shared other.shared → Leaves shared (cond test one other).shared
+either_leaves true one other shared first second = first
+either_leaves false one other shared first second = second
+
+write_leaves : (descriptor at wish : ℕ) (shared : Shared) → Leaves shared (call.write descriptor at wish shared).shared
+unfolding call.write
+write_leaves descriptor at wish shared =
+    either_leaves _ _ _ shared (written_leaves _ descriptor at _ shared) (record { memory = refl; pending = refl })
+
+called_leaves : (regs : Regs) (shared : Shared) → Leaves shared (call.called regs shared).shared
+unfolding call.called
+called_leaves regs shared =
+    either_leaves _ _ _ shared (write_leaves _ _ _ shared)
+    (either_leaves _ _ _ shared (record { memory = refl; pending = refl }) (record { memory = refl; pending = refl }))
+
+after_call_keeps : (outcome : call.Outcome) (shared : Shared) (machine : Machine) → Leaves machine.shared shared → Keeps machine → machine.place ≡ Window → Keeps (after_call (record { shared = shared; outcome = outcome }) machine)
+after_call_keeps (call.Outcome.Answers answer) shared machine leaves keeps window = record {
+  noted_due = rw leaves.pending keeps.noted_due;
+  flag_set = keeps.flag_set;
+  window_clear = λ same. cc;
+  at_call = λ apart. rw leaves.memory (keeps.at_call (λ loop. cc));
+  zero = keeps.zero;
+}
+after_call_keeps (call.Outcome.Ends end) shared machine leaves keeps window = record {
+  noted_due = rw leaves.pending keeps.noted_due;
+  flag_set = keeps.flag_set;
+  window_clear = keeps.window_clear;
+  at_call = λ apart. rw leaves.memory (keeps.at_call apart);
+  zero = keeps.zero;
+}
+
+enter_keeps : (machine : Machine) → Keeps machine → machine.place ≡ Window → Keeps (entered machine)
+unfolding entered
+enter_keeps machine keeps window =
+    let called = call.called machine.regs machine.shared in
+    after_call_keeps called.outcome called.shared machine (called_leaves machine.regs machine.shared) keeps window
+
+-- ---- the step
+
+done_keeps : (row : Row) (machine : Machine) → Keeps machine → Fits row machine → Keeps (done row machine)
+done_keeps (Note instance) machine keeps fits = note_keeps instance machine keeps fits
+done_keeps (Take instance) machine keeps fits = take_keeps instance machine keeps
+done_keeps ClearFlag machine keeps fits = clear_keeps machine keeps fits
+done_keeps Execute machine keeps fits = execute_keeps machine keeps fits.0 fits.1
+done_keeps Check machine keeps fits = check_keeps machine keeps fits
+done_keeps Enter machine keeps fits = enter_keeps machine keeps fits
+done_keeps (Return answer) machine keeps fits = return_keeps answer machine keeps
+
+pub tick_keeps : (machine : Machine) → Keeps machine → Keeps (ticked machine)
+unfolding ticked
+tick_keeps machine keeps = record {
+  noted_due = keeps.noted_due;
+  flag_set = keeps.flag_set;
+  window_clear = keeps.window_clear;
+  at_call = keeps.at_call;
+  zero = keeps.zero;
+}
+
+-- a step keeps what every state keeps
+pub step_keeps : (machine : Machine) → Keeps machine → Keeps (stepped (ticked machine))
+unfolding stepped
+step_keeps machine keeps =
+    let next = tick_keeps machine keeps in
+    done_keeps (row_of (ticked machine)) (ticked machine) next (row_fits (ticked machine) next)
+
+-- and so does a step that may want memory and leave the state
+pub try_keeps : {E : Type 0} (result : Result (Unit {0}) E) (old new : Machine) → OnOk result (new ≡ stepped (ticked old)) → OnErr result (new ≡ old) → Keeps old → Keeps new
+try_keeps (Ok done) old new ok err keeps = rw ok (step_keeps old keeps)
+try_keeps (Err error) old new ok err keeps = rw err keeps

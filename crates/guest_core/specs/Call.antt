@@ -1,0 +1,64 @@
+-- What a system call does at once. Numbers stand in a7 (x17), arguments from a0 (x10) on.
+-- Source: write(2), exit_group(2), and the numbers of Linux's generic system call table; that a write moves at most
+-- 1048576 bytes, and that its whole range is looked at before anything is written, is the project's own.
+use Rattle.std.specs.Prelude.{ℕ, ◌%◌, ◌++◌, [], ◌==◌, nat_lt, min, if◌then◌else◌, ℤ, pos, neg_ℤ, List, length, Option, Some, None, slice_set, slice_index_or}
+use Rattle.guest_core.specs.declared.ends.End.{End}
+use Rattle.guest_core.specs.declared.ends.End.TheVariants.{Exit}
+use Rattle.guest_core.specs.declared.registers.Regs.{Regs}
+use Rattle.guest_core.specs.Memory.{first_bad, bytes_at}
+use Rattle.guest_core.specs.Registers.{register}
+use Rattle.guest_core.specs.Machine.{Shared}
+
+-- an answer, or the end of the process
+pub data Outcome : Type 0 where
+  Answers : ℤ → Outcome
+  Ends : End → Outcome
+
+-- a call's outcome, and what the system has afterwards
+pub record Called : Type 0 where
+  pub shared : Shared
+  pub outcome : Outcome
+
+-- a refusal: the negated error number, and nothing changes
+abbrev pub refused : ℕ → Shared → Called
+refused errno shared = record { shared = shared; outcome = Answers (neg_ℤ (pos errno)) }
+
+-- EBADF, EFAULT and ENOSYS
+abbrev pub bad_descriptor : ℕ
+bad_descriptor = 9
+
+abbrev pub bad_address : ℕ
+bad_address = 14
+
+abbrev pub no_such_call : ℕ
+no_such_call = 38
+
+abbrev pub with_output : ℕ → List ℕ → List (List ℕ) → List (List ℕ)
+with_output device bytes outputs = slice_set outputs device (slice_index_or outputs device [] ++ bytes)
+
+abbrev pub written : Option ℕ → ℕ → ℕ → ℕ → Shared → Called
+written (Some bad) descriptor at count shared = refused bad_address shared
+written None descriptor at count shared = record {
+  shared = record shared { outputs = with_output descriptor (bytes_at shared.memory at count) shared.outputs };
+  outcome = Answers (pos count);
+}
+
+-- write(2): descriptor d names device d
+unfoldable pub write : ℕ → ℕ → ℕ → Shared → Called
+write descriptor at wish shared =
+    let count = min wish 1048576 in
+    if nat_lt descriptor (length shared.outputs) then written (first_bad shared.memory at count) descriptor at count shared else refused bad_descriptor shared
+
+-- exit_group(2)
+abbrev pub exit_group : ℕ → Shared → Called
+exit_group code shared = record { shared = shared; outcome = Ends (Exit (code % 256)) }
+
+-- the call that the registers give
+unfoldable pub called : Regs → Shared → Called
+called regs shared =
+    if register regs 17 == 64 then write (register regs 10) (register regs 11) (register regs 12) shared else if register regs 17 == 94 then exit_group (register regs 10) shared else refused no_such_call shared
+
+-- the device whose output a call lengthens, if it lengthens any
+unfoldable pub output_of_call : Regs → Shared → Option ℕ
+output_of_call regs shared =
+    if register regs 17 == 64 then (if nat_lt (register regs 10) (length shared.outputs) then Some (register regs 10) else None) else None

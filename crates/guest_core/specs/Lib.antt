@@ -1,0 +1,15 @@
+pub mod Memory
+pub mod Pending
+pub mod Registers
+pub mod Instruction
+pub mod Machine
+pub mod Call
+pub mod Rows
+pub mod Event
+pub mod Start
+pub mod Kept
+pub mod State
+pub mod Effects
+pub mod Outcomes
+pub mod Runs
+pub mod Growth

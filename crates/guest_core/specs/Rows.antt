@@ -1,0 +1,142 @@
+-- A thread's step: which row fits its state, and what each row does.
+-- The project's own, after the safe system calls of QEMU's linux-user.
+use Rattle.std.specs.Prelude.{◌+◌, ◌-◌, ◌^◌, min, ◌==◌, true, false, not, if◌then◌else◌, ℤ, [], ◌∷◌, ◌++◌, filter, Option, Some, None}
+use Rattle.std.specs.Int.{w64, cast_unsigned}
+use Rattle.guest_core.specs.declared.ends.End.TheVariants.{Killed}
+use Rattle.guest_core.specs.declared.places.Place.{Place}
+use Rattle.guest_core.specs.declared.places.Place.TheVariants.{Loop, Start, Window, Done}
+use Rattle.guest_core.specs.declared.queue.Fault.{Fault}
+use Rattle.guest_core.specs.declared.queue.Instance.{Instance}
+use Rattle.guest_core.specs.Pending.{first_new, first_of, is_empty}
+use Rattle.guest_core.specs.Registers.{with_register, after_four}
+use Rattle.guest_core.specs.Instruction as step
+use Rattle.guest_core.specs.Call as call
+use Rattle.guest_core.specs.Machine.{Shared, Machine, due}
+
+pub data Row : Type 0 where
+  Note : Instance → Row
+  Take : Instance → Row
+  ClearFlag : Row
+  Execute : Row
+  Check : Row
+  Enter : Row
+  Return : ℤ → Row
+
+-- a due signal that isn't noted goes before all else
+abbrev pub note_or : Option Instance → Row → Row
+note_or (Some instance) row = Note instance
+note_or None row = row
+
+abbrev pub take_or : Option Instance → Row → Row
+take_or (Some instance) row = Take instance
+take_or None row = row
+
+-- the first due signal is taken where one is noted
+unfoldable pub flagged_row : Machine → Row
+flagged_row machine =
+    if is_empty machine.noted then ClearFlag else take_or (first_of (due machine.shared)) ClearFlag
+
+abbrev pub row_at : Place → Machine → Row
+row_at Loop machine = if machine.flag then flagged_row machine else Execute
+row_at Start machine = Check
+row_at Window machine = Enter
+row_at (Done answer) machine = Return answer
+
+unfoldable pub row_of : Machine → Row
+row_of machine = note_or (first_new (due machine.shared) machine.noted) (row_at machine.place machine)
+
+-- ---- what the rows do
+
+-- the signal is noted, the flag is set, and a thread in the window goes back to the check
+abbrev pub noted_at : Place → Place
+noted_at Window = Start
+noted_at Loop = Loop
+noted_at Start = Start
+noted_at (Done answer) = Done answer
+
+unfoldable pub noted : Instance → Machine → Machine
+noted instance machine = record machine {
+  noted = machine.noted ++ instance.id ∷ [];
+  flag = true;
+  place = noted_at machine.place;
+}
+
+-- the signal leaves the pending ones. Its default action is to end the process
+unfoldable pub taken : Instance → Machine → Machine
+taken instance machine = record machine {
+  shared = record machine.shared { pending = filter (λ other. not (other.id == instance.id)) machine.shared.pending };
+  noted = filter (λ id. not (id == instance.id)) machine.noted;
+  end = Some (Killed instance.fault.signal);
+}
+
+unfoldable pub flag_cleared : Machine → Machine
+flag_cleared machine = record machine { flag = false }
+
+-- a forced signal is added without a test
+abbrev pub forced : Fault → Shared → Shared
+forced fault shared = record shared {
+  pending = shared.pending ++ record { id = shared.next_id; fault = fault } ∷ [];
+  next_id = shared.next_id + 1;
+}
+
+abbrev pub after : step.Outcome → Machine → Machine
+after (step.Outcome.Runs regs) machine = record machine { regs = regs }
+after step.Outcome.Calls machine = record machine { place = Start }
+after (step.Outcome.Faults fault) machine = record machine { shared = forced fault machine.shared }
+
+unfoldable pub executed : Machine → Machine
+executed machine = after (step.instruction machine.regs machine.shared.memory) machine
+
+-- the check looks at the flag
+unfoldable pub checked : Machine → Machine
+checked machine = record machine { place = if machine.flag then Loop else Window }
+
+abbrev pub after_call : call.Called → Machine → Machine
+after_call called machine = after_outcome called.outcome (record machine { shared = called.shared })
+  where
+    after_outcome : call.Outcome → Machine → Machine
+    after_outcome (call.Outcome.Answers answer) machine = record machine { place = Done answer }
+    after_outcome (call.Outcome.Ends end) machine = record machine { end = Some end }
+
+-- the host is entered
+unfoldable pub entered : Machine → Machine
+entered machine = after_call (call.called machine.regs machine.shared) machine
+
+-- the answer stands in a0, and pc behind the call
+unfoldable pub returned : ℤ → Machine → Machine
+returned answer machine = record machine {
+  regs = after_four (with_register 10 (cast_unsigned w64 answer) machine.regs);
+  place = Loop;
+}
+
+abbrev pub done : Row → Machine → Machine
+done (Note instance) machine = noted instance machine
+done (Take instance) machine = taken instance machine
+done ClearFlag machine = flag_cleared machine
+done Execute machine = executed machine
+done Check machine = checked machine
+done Enter machine = entered machine
+done (Return answer) machine = returned answer machine
+
+-- the row that fits is done
+unfoldable pub stepped : Machine → Machine
+stepped machine = done (row_of machine) machine
+
+-- time goes on by 100 ns, at most to its type's end
+unfoldable pub ticked : Machine → Machine
+ticked machine = record machine { shared = record machine.shared { clock = min (machine.shared.clock + 100) (2 ^ 64 - 1) } }
+
+-- ---- which steps take no memory
+
+abbrev pub RowIsSteady : Row → Machine → Type 0
+RowIsSteady (Note instance) machine = Unit {0}
+RowIsSteady (Take instance) machine = Unit {0}
+RowIsSteady ClearFlag machine = Unit {0}
+RowIsSteady Execute machine = step.IsFaultless (step.instruction machine.regs machine.shared.memory)
+RowIsSteady Check machine = Unit {0}
+RowIsSteady Enter machine = ⊥
+RowIsSteady (Return answer) machine = Unit {0}
+
+-- the step enters no host and meets no fault
+abbrev pub IsSteady : Machine → Type 0
+IsSteady machine = RowIsSteady (row_of machine) machine

@@ -1,0 +1,67 @@
+//! The core of the emulator: a machine whose state changes one event at a time.
+//!
+//! # Model
+//!
+//! Contracts see a `Core` as a `Machine`: what the system has (`Shared`: the memory, what was written to each device,
+//! the pending signals, the clock), and of its one thread the registers, the place, the flag and the signals that it
+//! has noted. `event_after` gives the machine after an event, none where the event isn't enabled; `run` carries that
+//! over a list of events. The type `Core` keeps what `Keeps` says of every state.
+//!
+//! A thread's step is made by the first row that fits its state (`row_of`), each row a function of the machine:
+//!
+//! ```text
+//!                    a due signal isn't noted: noted, flag set, Window -> Start
+//!
+//!                flag clear, ecall            flag clear
+//!        Loop ------------------------> Start ----------> Window
+//!      ^  ^  |  flag set                  |                  |
+//!      |  |  +- noted: taken; else        | flag set         | the host is entered: the answer,
+//!      |  |     the flag is cleared       |                  | or the process ends
+//!      |  +-------------------------------+                  v
+//!      +------------------------------------------------- Done(answer)
+//!                 the answer in a0, pc behind the ecall
+//! ```
+//!
+//! At `Loop` with a clear flag one instruction is made. Its fault sends a forced signal, which the next two steps note
+//! and take. Each step takes 100 ns of the clock, which is virtual.
+//!
+//! # What the layer above knows
+//!
+//! `Core::event` makes exactly `event_after`, refuses exactly what isn't enabled, and leaves the state after a
+//! refusal. It takes constant time, but for a write by the bytes that it writes, and memory only there and never
+//! elsewhere (`TakesNoMemory`). Outputs only grow, and only that of the device that `Core::lengthens` names.
+//!
+//! # Sources
+//!
+//! The RISC-V unprivileged manual for instructions, signal(7), sigaction(2), write(2) and exit_group(2). The window
+//! between check and host is after the safe system calls of QEMU's linux-user; places, flag, noted signals and virtual
+//! time are the project's own.
+#![tactic(auto)]
+
+mod calls;
+mod ends;
+mod events;
+mod execute;
+mod machine;
+mod output;
+mod places;
+mod queue;
+mod registers;
+mod rows;
+mod segment;
+mod signal;
+mod starting;
+mod state;
+
+pub use ends::End;
+pub use events::Event;
+pub use machine::{Core, CoreRefusal, FIRST_THREAD};
+pub use places::Place;
+pub use queue::{Fault, Instance};
+pub use registers::Regs;
+pub use segment::Memory;
+pub use signal::SigNo;
+pub use starting::{StartFault, start};
+
+#[cfg(test)]
+mod tests;

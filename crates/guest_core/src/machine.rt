@@ -1,0 +1,152 @@
+ghost use Rattle.std.specs.Prelude.{◌≡◌, ◌<◌, [], None, Some, length, take, slice_get, slice_index_or, is_none, ◌==◌, if◌then◌else◌, OnOk, OnErr, IfErr, IfSome, IsOk};
+ghost use Rattle.std.specs.Option.{option_copied};
+ghost use Rattle.guest_core.specs.Event.{is_enabled, event_after, run};
+ghost use Rattle.guest_core.specs.Runs.{TakesNoMemory, Stopped};
+ghost use Rattle.guest_core.specs.Growth.{lengthens, Lengthened};
+
+use crate::calls::WRITE;
+use crate::ends::End;
+use crate::events::Event;
+use crate::places::Place;
+use crate::registers::Regs;
+use crate::state::State;
+use std::marker::Model;
+
+/// The one thread of a process.
+pub const FIRST_THREAD: u32 = 1000;
+
+/// Why an event was not made. The state is as before.
+#[derive(Clone, Copy, Debug, PartialEq, Eq)]
+pub enum CoreRefusal {
+    /// The event is not enabled.
+    NotNow,
+    /// Want of memory.
+    Memory,
+}
+
+/// The emulator's machine. Contracts see its whole state; its type keeps what `Keeps` says of each state.
+#[derive(Drop)]
+pub struct Core {
+    state: State,
+}
+
+impl Model for Core {
+    ghost use Rattle.guest_core.specs.Machine.{Machine};
+
+    ghost Value = { Machine };
+
+    ghost use Rattle.guest_core.specs.State.{machine};
+    ghost use Rattle.guest_core.specs.Kept.{Keeps};
+
+    ghost view = { λ core. machine core.state };
+
+    ghost invariant = { λ core. Keeps (machine core.state) };
+}
+
+impl Core {
+    ghost use Rattle.guest_core.specs.State.{machine};
+    ghost use Rattle.guest_core.specs.Kept.{Keeps};
+
+    pub(crate) fn from_state(state: State) -> Core
+        requires { Keeps (machine state) }
+        ensures { result ≡ machine state }
+    {
+        Core { state }
+    }
+
+    /// Makes an event. After a refusal the state is as before. It takes constant time, and memory only where a call
+    /// writes to a device.
+    #[tactic(auto, unfolding(crate::specs::Event::event_after))]
+    pub fn event(&mut self, event: &Event) -> Result<(), CoreRefusal>
+        ensures happens { OnOk result (event_after self.old event.now ≡ Some self.new) }
+        ensures unchanged { OnErr result (self.new ≡ self.old) }
+        ensures refused { result ≡ Err CoreRefusal.NotNow → event_after self.old event.now ≡ None }
+        ensures not_enabled { event_after self.old event.now ≡ None → result ≡ Err CoreRefusal.NotNow }
+        ensures steady { TakesNoMemory self.old event.now → IsOk result }
+        ensures outputs { OnOk result (Lengthened (lengthens self.old event.now) self.old.shared.outputs self.new.shared.outputs) }
+    {
+        if !self.enabled(event) {
+            return Err(CoreRefusal::NotNow);
+        }
+        match self.state.step() {
+            Ok(()) => Ok(()),
+            Err(_) => Err(CoreRefusal::Memory),
+        }
+    }
+
+    /// Makes events up to the first that is refused, whose index is told with its refusal. The state is that before
+    /// this event.
+    pub fn run_events(&mut self, events: &[Event]) -> Result<(), (usize, CoreRefusal)>
+        ensures ran { OnOk result (run (Some self.old) events.now ≡ Some self.new) }
+        ensures stopped { IfErr result (λ stop. Stopped self.old events.now stop.0 stop.1 self.new) }
+    {
+        for (index, event) in events.iter().enumerate() {
+            if let Err(refusal) = self.event(event) {
+                return Err((index, refusal));
+            }
+        }
+        Ok(())
+    }
+
+    /// The device whose output the event may lengthen. An event lengthens no other.
+    #[tactic(auto, unfolding(crate::specs::Growth::lengthens, crate::specs::Call::output_of_call))]
+    pub fn lengthens(&self, event: &Event) -> Option<usize>
+        ensures device { result ≡ lengthens self.now event.now }
+        ensures within { IfSome result (λ device. device < length self.now.shared.outputs) }
+    {
+        match *event {
+            Event::Step(_) => {}
+        }
+        if self.state.place != Place::Window || self.state.regs.register(17) != WRITE {
+            return None;
+        }
+        let descriptor = self.state.regs.register(10);
+        if descriptor < self.state.host.outputs.len() as u64 {
+            Some(descriptor as usize)
+        } else {
+            None
+        }
+    }
+
+    /// Whether the event is enabled.
+    pub fn enabled(&self, event: &Event) -> bool
+        ensures { result ≡ is_enabled self.now event.now }
+    {
+        match *event {
+            Event::Step(thread) => self.state.end.is_none() && thread == FIRST_THREAD,
+        }
+    }
+
+    /// How the process ended, `None` while it lives.
+    pub fn ended(&self) -> Option<End>
+        ensures { result ≡ self.now.end }
+    {
+        self.state.end
+    }
+
+    /// The registers of a thread, `None` exactly where it does not live.
+    pub fn regs(&self, thread: u32) -> Option<&Regs>
+        ensures { option_copied result ≡ (if thread == FIRST_THREAD then Some self.now.regs else None) }
+    {
+        if thread == FIRST_THREAD {
+            Some(&self.state.regs)
+        } else {
+            None
+        }
+    }
+
+    /// The number of devices.
+    pub fn devices(&self) -> usize
+        ensures { result ≡ length self.now.shared.outputs }
+    {
+        self.state.host.outputs.len()
+    }
+
+    /// What was written to a device, in order.
+    pub fn output(&self, device: usize) -> &[u8]
+        requires { device < length self.now.shared.outputs }
+        ensures { result.now ≡ slice_index_or self.now.shared.outputs device [] }
+    {
+        self.state.host.outputs.get(device)
+    }
+}

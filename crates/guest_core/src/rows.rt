@@ -1,0 +1,198 @@
+//! The rows of a thread's step, each a function.
+
+ghost use Rattle.std.specs.Prelude.{◌≡◌, ◌≢◌, ◌+◌, ◌<◌, ◌^◌, [], false, Some, None, OnOk, OnErr, IsOk};
+ghost use Rattle.guest_core.specs.Pending.{first_new, first_of};
+ghost use Rattle.guest_core.specs.Rows.{noted, taken, flag_cleared, executed, checked, entered, returned, done, flagged_row, stepped, ticked, IsSteady};
+ghost use Rattle.guest_core.specs.State.{machine};
+ghost use Rattle.guest_core.specs.Instruction.{instruction, IsFaultless, illegal as illegal_at, unmapped as unmapped_at};
+
+use crate::calls::Outcome;
+use crate::ends::End;
+use crate::execute::{Effect, execute};
+use crate::places::Place;
+use crate::queue::{Fault, Instance};
+use crate::signal::SigNo;
+use crate::state::State;
+use isa_decode::decode;
+use std::alloc::AllocError;
+
+impl State {
+    /// A due signal is noted.
+    #[tactic(auto, unfolding(crate::specs::Rows::noted))]
+    fn note(&mut self, instance: Instance)
+        requires { first_new self.old.host.pending.instances self.old.host.pending.noted ≡ Some instance }
+        ensures { machine self.new ≡ noted instance (machine self.old) }
+    {
+        self.host.pending.note(instance);
+        self.flag = true;
+        if self.place == Place::Window {
+            self.place = Place::Start;
+        }
+    }
+
+    /// The first due signal is taken.
+    #[tactic(auto, unfolding(crate::specs::Rows::taken))]
+    fn take(&mut self, instance: Instance)
+        requires { first_of self.old.host.pending.instances ≡ Some instance }
+        ensures { machine self.new ≡ taken instance (machine self.old) }
+    {
+        let Instance { id: _, fault } = instance;
+        let Fault { signal, .. } = fault;
+        self.host.pending.take(instance);
+        self.end = Some(End::Killed(signal));
+    }
+
+    /// The flag is cleared, since nothing is noted.
+    #[tactic(auto, unfolding(crate::specs::Rows::flag_cleared))]
+    fn clear_flag(&mut self)
+        ensures { machine self.new ≡ flag_cleared (machine self.old) }
+    {
+        self.flag = false;
+    }
+
+    /// The flag is looked at before the window.
+    #[tactic(auto, unfolding(crate::specs::Rows::checked))]
+    fn check(&mut self)
+        ensures { machine self.new ≡ checked (machine self.old) }
+    {
+        self.place = if self.flag {
+            Place::Loop
+        } else {
+            Place::Window
+        };
+    }
+
+    /// The call's answer reaches the registers.
+    #[tactic(auto, unfolding(crate::specs::Rows::returned))]
+    fn finish(&mut self, answer: i64)
+        ensures { machine self.new ≡ returned answer (machine self.old) }
+    {
+        self.regs.set_register(10, answer.cast_unsigned());
+        self.regs.pass_four();
+        self.place = Place::Loop;
+    }
+
+    /// An instruction is made, or its fault is sent. Only a fault may want memory.
+    #[tactic(auto, unfolding(crate::specs::Rows::executed, crate::specs::Instruction::instruction))]
+    fn execute(&mut self) -> Result<(), AllocError>
+        requires { self.old.host.pending.instances ≡ [] }
+        ensures ok { OnOk result (machine self.new ≡ executed (machine self.old)) }
+        ensures err { OnErr result (machine self.new ≡ machine self.old) }
+        ensures steady { IsFaultless (instruction self.old.regs self.old.host.memory) → IsOk result }
+    {
+        let pc = self.regs.pc;
+        let word = match self.host.memory.code_at(pc) {
+            Ok(word) => word,
+            Err(address) => return self.host.pending.send_forced(unmapped(address)),
+        };
+        let Some(instr) = decode(word) else {
+            return self.host.pending.send_forced(illegal(pc));
+        };
+        match execute(&instr, &mut self.regs) {
+            Effect::Next => {}
+            Effect::Call => self.place = Place::Start,
+        }
+        Ok(())
+    }
+
+    /// The host is entered.
+    #[tactic(auto, unfolding(crate::specs::Rows::entered))]
+    fn enter(&mut self) -> Result<(), AllocError>
+        ensures ok { OnOk result (machine self.new ≡ entered (machine self.old)) }
+        ensures err { OnErr result (machine self.new ≡ machine self.old) }
+    {
+        match self.host.call(&self.regs)? {
+            Outcome::Answer(answer) => self.place = Place::Done(answer),
+            Outcome::End(end) => self.end = Some(end),
+        }
+        Ok(())
+    }
+
+    /// Time goes on by 100 ns.
+    #[tactic(auto, unfolding(crate::specs::Rows::ticked))]
+    fn tick(&mut self)
+        ensures { machine self.new ≡ ticked (machine self.old) }
+    {
+        self.host.clock = self.host.clock.saturating_add(100);
+    }
+
+    /// The row that fits is done.
+    #[tactic(auto, using(crate::proofs::Due::nothing_due), unfolding(crate::specs::Rows::stepped, crate::specs::Rows::row_of))]
+    fn row(&mut self) -> Result<(), AllocError>
+        requires { self.old.flag ≡ false → self.old.host.pending.noted ≡ [] }
+        ensures ok { OnOk result (machine self.new ≡ stepped (machine self.old)) }
+        ensures err { OnErr result (machine self.new ≡ machine self.old) }
+        ensures steady { IsSteady (machine self.old) → IsOk result }
+    {
+        if let Some(instance) = self.host.pending.first_new() {
+            self.note(instance);
+            return Ok(());
+        }
+        match self.place {
+            Place::Loop if self.flag => {
+                self.take_noted();
+                Ok(())
+            }
+            Place::Loop => self.execute(),
+            Place::Start => {
+                self.check();
+                Ok(())
+            }
+            Place::Window => self.enter(),
+            Place::Done(answer) => {
+                self.finish(answer);
+                Ok(())
+            }
+        }
+    }
+
+    /// A noted signal is taken; where none is, the flag is cleared.
+    #[tactic(auto, unfolding(crate::specs::Rows::flagged_row))]
+    fn take_noted(&mut self)
+        ensures { machine self.new ≡ done (flagged_row (machine self.old)) (machine self.old) }
+    {
+        match self.host.pending.first() {
+            Some(instance) if self.host.pending.any_noted() => self.take(instance),
+            _ => self.clear_flag(),
+        }
+    }
+
+    /// One step: time goes on, and the row that fits is done.
+    #[tactic(auto, unfolding(crate::specs::Rows::ticked, crate::specs::Rows::row_of))]
+    pub fn step(&mut self) -> Result<(), AllocError>
+        requires { self.old.flag ≡ false → self.old.host.pending.noted ≡ [] }
+        ensures ok { OnOk result (machine self.new ≡ stepped (ticked (machine self.old))) }
+        ensures err { OnErr result (machine self.new ≡ machine self.old) }
+        ensures steady { IsSteady (machine self.old) → IsOk result }
+    {
+        let clock = self.host.clock;
+        self.tick();
+        let done = self.row();
+        if done.is_err() {
+            self.host.clock = clock;
+        }
+        done
+    }
+}
+
+/// The fault of a word that is no instruction.
+fn illegal(pc: u64) -> Fault
+    ensures { result ≡ illegal_at pc }
+{
+    Fault {
+        signal: SigNo::illegal_instruction(),
+        code: 1,
+        address: pc,
+    }
+}
+
+/// The fault of a fetch that is not mapped.
+fn unmapped(address: u64) -> Fault
+    ensures { result ≡ unmapped_at address }
+{
+    Fault {
+        signal: SigNo::segmentation_fault(),
+        code: 1,
+        address,
+    }
+}

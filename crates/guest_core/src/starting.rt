@@ -1,0 +1,69 @@
+ghost use Rattle.std.specs.Prelude.{◌≡◌, ◌≤◌, IfOk};
+ghost use Rattle.elf_file.specs.Reading.{image, segment_image};
+ghost use Rattle.guest_core.specs.Start.{started, loaded};
+ghost use Rattle.guest_core.specs.State.{machine};
+
+use crate::machine::Core;
+use crate::output::Outputs;
+use crate::places::Place;
+use crate::queue::Pending;
+use crate::registers::Regs;
+use crate::segment::Memory;
+use crate::state::{Host, State};
+use elf_file::{Bytes, Elf, Segment};
+use std::alloc::{AllocError, Global};
+
+/// Why no start was made.
+#[derive(Clone, Copy, Debug, PartialEq, Eq)]
+pub enum StartFault {
+    /// Want of memory.
+    Memory,
+}
+
+/// The state in which a file starts, with that many devices. It costs by the size of the file's segment.
+///
+/// References: System V ABI, "Program Loading".
+#[tactic(auto, using(crate::proofs::StartFacts::start_keeps), unfolding(crate::specs::Start::started))]
+pub fn start(alloc: Global, elf: &Elf, devices: usize) -> Result<Core, StartFault>
+    requires { devices ≤ 8 }
+    ensures { IfOk result (λ core. core ≡ started (image elf.now) devices) }
+{
+    match state_of(alloc, elf, devices) {
+        Ok(state) => Ok(Core::from_state(state)),
+        Err(_) => Err(StartFault::Memory),
+    }
+}
+
+#[tactic(auto, unfolding(crate::specs::Start::started))]
+fn state_of(alloc: Global, elf: &Elf, devices: usize) -> Result<State, AllocError>
+    ensures { IfOk result (λ state. machine state ≡ started (image elf.now) devices) }
+{
+    let memory = load(alloc, &elf.segment)?;
+    let outputs = Outputs::new(alloc, devices)?;
+    Ok(State {
+        host: Host {
+            memory,
+            outputs,
+            pending: Pending::new(),
+            clock: 0,
+        },
+        regs: Regs {
+            pc: elf.entry,
+            x: [0; 32],
+        },
+        place: Place::Loop,
+        flag: false,
+        end: None,
+    })
+}
+
+/// The segment's bytes from the file, and zeros behind them.
+fn load(alloc: Global, segment: &Segment) -> Result<Memory, AllocError>
+    ensures { IfOk result (λ memory. memory ≡ loaded (segment_image segment.now)) }
+{
+    let size = segment.size as usize;
+    let mut bytes = Vec::with_capacity(alloc, size)?;
+    bytes.extend_from_slice(segment.file_bytes.as_slice())?;
+    bytes.resize(size, 0)?;
+    Ok(Memory::new(segment.at, Bytes::from_vec(bytes)))
+}

@@ -1,0 +1,55 @@
+use super::*;
+use elf_file::{Elf, read};
+use std::alloc::Global;
+use std::test::Fail;
+
+/// A file of 132 bytes, loaded whole at 0x10000, whose code at 0x10078 is `li a0,7; li a7,94; ecall`.
+const EXITS: [u8; 132] = [
+    0x7F, b'E', b'L', b'F', 2, 1, 1, 0, 0, 0, 0, 0, 0, 0, 0, 0, // identity
+    2, 0, 243, 0, 1, 0, 0, 0, 0x78, 0, 1, 0, 0, 0, 0, 0, // type, machine, version, entry
+    64, 0, 0, 0, 0, 0, 0, 0, 0, 0, 0, 0, 0, 0, 0, 0, // program headers, sections
+    1, 0, 0, 0, 64, 0, 56, 0, 1, 0, 0, 0, 0, 0, 0, 0, // flags, sizes, numbers
+    1, 0, 0, 0, 5, 0, 0, 0, 0, 0, 0, 0, 0, 0, 0, 0, // type, rights, offset
+    0, 0, 1, 0, 0, 0, 0, 0, 0, 0, 1, 0, 0, 0, 0, 0, // address
+    132, 0, 0, 0, 0, 0, 0, 0, 132, 0, 0, 0, 0, 0, 0, 0, // sizes
+    0, 16, 0, 0, 0, 0, 0, 0, // alignment
+    0x13, 0x05, 0x70, 0x00, 0x93, 0x08, 0xE0, 0x05, 0x73, 0x00, 0x00, 0x00, // code
+];
+
+const STEP: Event = Event::Step(FIRST_THREAD);
+
+fn started(alloc: Global) -> Result<Core, Fail> {
+    let elf: Elf = read(alloc, &EXITS)?;
+    Ok(start(alloc, &elf, 3)?)
+}
+
+#[test]
+fn a_run_up_to_its_end(rt: HostRuntime) -> Result<(), Fail> {
+    let mut core = started(rt.alloc())?;
+    assert_eq!(rt; core.devices(), 3);
+    assert!(rt; core.enabled(&STEP));
+    assert!(rt; !core.enabled(&Event::Step(1001)));
+    assert_eq!(rt; core.event(&Event::Step(1001)), Err(CoreRefusal::NotNow));
+    assert_eq!(rt; core.event(&STEP), Ok(()));
+    match core.regs(FIRST_THREAD) {
+        Some(regs) => {
+            assert_eq!(rt; regs.pc, 0x1007C);
+            assert_eq!(rt; regs.register(10), 7);
+        }
+        None => assert!(rt; false),
+    }
+    assert!(rt; core.regs(1001).is_none());
+    assert_eq!(rt; core.lengthens(&STEP), None);
+    assert_eq!(rt; core.run_events(&[STEP, STEP, STEP]), Ok(()));
+    assert!(rt; core.ended().is_none());
+    // the fifth step ends the process, and the sixth isn't enabled
+    assert_eq!(rt;
+        core.run_events(&[STEP, STEP]),
+        Err((1, CoreRefusal::NotNow))
+    );
+    assert!(rt; matches!(core.ended(), Some(End::Exit(7))));
+    if core.devices() > 1 {
+        assert_eq!(rt; core.output(1), [].as_slice());
+    }
+    Ok(())
+}
