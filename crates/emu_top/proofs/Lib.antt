@@ -6,3 +6,4 @@ pub mod SendFacts
 pub mod TurnFacts
 pub mod RunFacts
 pub mod TopFacts
+pub mod RowsSimulate

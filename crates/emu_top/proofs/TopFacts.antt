@@ -1,5 +1,5 @@
 -- From a run of the core to what the top call answers.
-use Rattle.std.proofs.Common.{◌≡◌, ℕ, ◌<◌, List, [], ◌∷◌, ◌++◌, append-nil, replicate, Some, None, Option, Result, Ok, Err, IfErr, map, length, refl, ap, sym, ◌∙◌, subst}
+use Rattle.std.proofs.Common.{◌≡◌, ℕ, ◌<◌, List, [], ◌∷◌, ◌++◌, append-nil, replicate, Some, None, Option, Result, Ok, Err, IfErr, map, length, inr, refl, ap, sym, ◌∙◌, subst}
 use Rattle.std.proofs.lemmas.List.{length-map, length-replicate}
 use Rattle.elf_file.specs.Reading.{Image}
 use Rattle.guest_core.specs.Machine.{Machine}
@@ -12,7 +12,12 @@ use Rattle.emu_top.specs.declared.top.Finished.{Finished}
 use Rattle.emu_top.specs.declared.top.Stopped as top
 use Rattle.emu_top.specs.Running.{Ran, Stopped}
 use Rattle.emu_top.specs.Sending.{sent}
-use Rattle.emu_top.specs.Solo.{budget, RunsFrom, CoreStops}
+use Rattle.guest_core.specs.Event.{run}
+use Rattle.emu_top.specs.declared.folder.Entry.{Entry}
+use Rattle.emu_top.specs.Journal.{History}
+use Rattle.emu_top.specs.Solo.{budget, RunsFrom, CoreFinishes, CoreStops, Prepared, Journeys, Finishes, IsCaused, halt_cause}
+use Rattle.emu_top.specs.View.{view}
+use Rattle.emu_top.proofs.RowsSimulate.{start_simulates}
 
 runs_from : {D : Type 0} (first last : Run D) → first.journal.budget ≡ budget → Ran first last → RunsFrom first.core last.journal last.core
 runs_from first last is ran = record { enabled = ran.events; within = ran.within; budget_is = ran.budget ∙ is }
@@ -58,3 +63,46 @@ start_quiet held devices elf count core is same =
     let outputs : core.shared.outputs ≡ replicate (length (map held devices)) [] =
     ap (λ (m : Machine). m.shared.outputs) is ∙ outputs_at_start elf count ∙ ap (λ (n : ℕ). replicate n []) size in
     sym (nothing_sent (map held devices)) ∙ ap (sent (map held devices)) (sym outputs)
+
+-- ---- the answer
+
+journeys : (tree : Option (List Entry)) (words : List (List ℕ)) (elf : Image) (devices : ℕ) (core : Machine) (journal : History) (last : Machine) → Prepared tree words elf → core ≡ started elf devices → RunsFrom core journal last → Journeys tree words devices journal last (view last)
+journeys tree words elf devices core journal last prepared is runs =
+    let enabled : run (Some (started elf devices)) journal.events ≡ Some last = ap (λ (m : Machine). run (Some m) journal.events) (sym is) ∙ runs.enabled in
+    record {
+      elf = elf;
+      prepared = prepared;
+      enabled = enabled;
+      within = runs.within;
+      budget_is = runs.budget_is;
+      labels_are_a_run = start_simulates elf devices journal.events last enabled;
+      viewed = refl;
+    }
+
+-- a run of the core to its end is what the top call shows
+pub finishes : {D : Type 0} (held : D → Option (List ℕ)) (tree : Option (List Entry)) (words : List (List ℕ)) (elf : Image) (core : Machine) (before : List D) (end : End) (status : ℕ) (journal : History) (after : List D) → CoreFinishes held core before end status journal after → Prepared tree words elf → core ≡ started elf (length before) → Finishes held tree words before end status journal after
+finishes held tree words elf core before end status journal after finished prepared is = record {
+  last = finished.last;
+  process = view finished.last;
+  journeys = journeys tree words elf (length before) core journal finished.last prepared is finished.runs;
+  end_is = finished.end_is;
+  status_is = finished.status_is;
+  all_sent = finished.all_sent;
+}
+
+-- and one that stopped is a cause
+pub is_caused : {D : Type 0} (held : D → Option (List ℕ)) (writes : D → ℕ) (tree : Option (List Entry)) (reads_before reads_after : ℕ) (words : List (List ℕ)) (elf : Image) (core : Machine) (before : List D) (halt : Halt) (journal : History) (after : List D) → CoreStops held writes core before halt journal after → Prepared tree words elf → core ≡ started elf (length before) → IsCaused held writes tree reads_before reads_after words before (halt_cause halt) journal after
+is_caused held writes tree reads_before reads_after words elf core before (halts.Device device) journal after stopped prepared is = record {
+  last = stopped.0;
+  process = view stopped.0;
+  journeys = journeys tree words elf (length before) core journal stopped.0 prepared is stopped.1;
+  sent_up_to = stopped.2;
+  is_device = stopped.3;
+  rose = stopped.4;
+}
+is_caused held writes tree reads_before reads_after words elf core before halts.Memory journal after stopped prepared is = inr (record {
+  last = stopped.0;
+  process = view stopped.0;
+  journeys = journeys tree words elf (length before) core journal stopped.0 prepared is stopped.1;
+  all_sent = stopped.2;
+})

@@ -6,3 +6,5 @@ pub mod Sending
 pub mod Running
 pub mod Solo
 pub mod Loading
+pub mod View
+pub mod Labels

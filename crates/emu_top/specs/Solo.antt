@@ -1,4 +1,4 @@
--- What `solo` answers. The headline of the program, over the emulator's own machine.
+-- What `solo` answers: the headline of the program.
 -- The project's own.
 use Rattle.std.specs.Prelude.{◌≡◌, ◌≢◌, ◌⊎◌, ◌<◌, ◌≤◌, ℕ, ◌+◌, Bool, false, List, [], ◌∷◌, map, length, Option, Some, Ok, Err, nat_eq, slice_index}
 use Rattle.std.specs.List.{starts_with}
@@ -9,6 +9,8 @@ use Rattle.guest_core.specs.declared.ends.End.TheVariants.{Exit, Killed, Budget}
 use Rattle.guest_core.specs.Machine.{Machine}
 use Rattle.guest_core.specs.Event.{run}
 use Rattle.guest_core.specs.Start.{started}
+use Rattle.linux_model.specs.Process.{ProcessState, begun, seen_outputs, seen_end}
+use Rattle.linux_model.specs.Steps.{follow}
 use Rattle.emu_top.specs.declared.folder.Entry.{Entry}
 use Rattle.emu_top.specs.declared.folder.Listed.{Listed}
 use Rattle.emu_top.specs.declared.cause.Cause.{Cause}
@@ -18,9 +20,11 @@ use Rattle.emu_top.specs.declared.solo.Halt.{Halt}
 use Rattle.emu_top.specs.declared.solo.Halt.TheVariants as halts
 use Rattle.emu_top.specs.Files.{NamesFile, Lists, Reads}
 use Rattle.emu_top.specs.Journal.{History}
+use Rattle.emu_top.specs.Labels.{run_labels}
 use Rattle.emu_top.specs.Running.{IsEnd}
 use Rattle.emu_top.specs.Sending.{sent, SentUpTo}
 use Rattle.emu_top.specs.Told.{Rose}
+use Rattle.emu_top.specs.View.{view}
 use Rattle.emu_top.specs.Words.{IsSolo, IsAccepted, IsFirstWrong}
 
 -- the most events of a run
@@ -58,22 +62,26 @@ pub record Prepared (tree : Option (List Entry)) (words : List (List ℕ)) (elf 
   pub elf_is : reading bytes ≡ Ok elf
 
 -- The words, the folder and the number of devices give a start, and the journal's events are a run from it: each is
--- enabled after those before it. They number at most the budget.
-pub record Journeys (tree : Option (List Entry)) (words : List (List ℕ)) (devices : ℕ) (journal : History) (last : Machine) : Type 0 where
+-- enabled after those before it. They number at most the budget. Their labels are a run of the process machine from
+-- its own start, whose last state is the view of the core's.
+pub record Journeys (tree : Option (List Entry)) (words : List (List ℕ)) (devices : ℕ) (journal : History) (last : Machine) (process : ProcessState) : Type 0 where
   pub elf : Image
   pub prepared : Prepared tree words elf
   pub enabled : run (Some (started elf devices)) journal.events ≡ Some last
   pub within : length journal.events ≤ journal.budget
   pub budget_is : journal.budget ≡ budget
+  pub labels_are_a_run : follow (Some (begun elf devices)) (run_labels (Some (started elf devices)) journal.events) ≡ Some process
+  pub viewed : process ≡ view last
 
 -- what a run that came to an end answers
 pub record Finishes {D : Type 0} (held : D → Option (List ℕ)) (tree : Option (List Entry)) (words : List (List ℕ)) (before : List D) (end : End) (status : ℕ) (journal : History) (after : List D) : Type 0 where
   pub last : Machine
-  pub journeys : Journeys tree words (length before) journal last
-  pub end_is : IsEnd last.end (length journal.events) budget end
+  pub process : ProcessState
+  pub journeys : Journeys tree words (length before) journal last process
+  pub end_is : IsEnd (seen_end process) (length journal.events) budget end
   pub status_is : status ≡ status_of end
-  -- each device holds what it held, and its output behind that
-  pub all_sent : map held after ≡ sent (map held before) last.shared.outputs
+  -- each device holds what it held, and what is seen of the run behind that
+  pub all_sent : map held after ≡ sent (map held before) (seen_outputs process)
 
 -- a run from a core, with the journal under the budget
 pub record RunsFrom (core : Machine) (journal : History) (last : Machine) : Type 0 where
@@ -106,16 +114,18 @@ pub record Untouched {D : Type 0} (before : List D) (journal : History) (after :
 -- a run that a device stopped: it holds a beginning of its output, and each other device all of its own
 pub record StoppedBy {D : Type 0} (held : D → Option (List ℕ)) (writes : D → ℕ) (device : ℕ) (tree : Option (List Entry)) (words : List (List ℕ)) (before : List D) (journal : History) (after : List D) : Type 0 where
   pub last : Machine
-  pub journeys : Journeys tree words (length before) journal last
-  pub sent_up_to : SentUpTo (map held before) last.shared.outputs device (map held after)
+  pub process : ProcessState
+  pub journeys : Journeys tree words (length before) journal last process
+  pub sent_up_to : SentUpTo (map held before) (seen_outputs process) device (map held after)
   pub is_device : device < length before
   pub rose : Rose (slice_index (map writes before) device) (slice_index (map writes after) device)
 
 -- a run that want of memory stopped
 pub record Wants {D : Type 0} (held : D → Option (List ℕ)) (tree : Option (List Entry)) (words : List (List ℕ)) (before : List D) (journal : History) (after : List D) : Type 0 where
   pub last : Machine
-  pub journeys : Journeys tree words (length before) journal last
-  pub all_sent : map held after ≡ sent (map held before) last.shared.outputs
+  pub process : ProcessState
+  pub journeys : Journeys tree words (length before) journal last process
+  pub all_sent : map held after ≡ sent (map held before) (seen_outputs process)
 
 -- why no start was made. Want of memory is free
 abbrev pub Unprepared : Option (List Entry) → ℕ → ℕ → List (List ℕ) → Cause → Type 0

@@ -28,6 +28,7 @@ mod memory_folder;
 mod memory_sink;
 mod prepare;
 mod real_folder;
+mod simulation;
 mod sink;
 mod solo;
 mod streams;

@@ -47,6 +47,7 @@ struct Stopped<D: Device> {
 /// nothing is written to the folder or on `notes`. The devices are those of the guest's descriptors from 0 on.
 ///
 /// It costs by the listing, by the size of the program's segment and by the number of its steps, at most 4194304.
+#[tactic(auto, using(crate::proofs::TopFacts::finishes, crate::proofs::TopFacts::is_caused))]
 pub fn solo_top<F: Folder, K: Sink, D: Device>(
     alloc: Global,
     words: &[String],
@@ -55,8 +56,9 @@ pub fn solo_top<F: Folder, K: Sink, D: Device>(
     notes: &mut K,
 ) -> Result<Finished<D>, TopFault<D>>
     requires { length devices.items ≤ 8 }
-    // The journal's events are a run from the start that the words and the file give, the end and the status are by
-    // its last state, and each device holds what it held and the output of the run behind that.
+    // The journal's events are a run from the start that the words and the file give, and their labels a run of the
+    // process machine. The end and the status are by its last state, and each device holds what it held, and what is
+    // seen of the run behind that.
     ensures finished { IfOk result (λ f. Finishes D.held (F.tree folder.old) (map string_bytes words.now) devices.items f.end f.status f.journal f.devices.items) }
     // Each fault comes only where its cause holds, and carries what was done.
     ensures caused { IfErr result (λ f. IsCaused D.held D.failed_writes (F.tree folder.old) (F.failed_reads folder.old) (F.failed_reads folder.new) (map string_bytes words.now) devices.items f.cause f.journal f.devices.items) }

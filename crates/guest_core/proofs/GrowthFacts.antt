@@ -85,7 +85,7 @@ row_lengthened (Take instance) machine fits = same_lengthened _ _ _ refl
 row_lengthened ClearFlag machine fits = same_lengthened _ _ _ refl
 row_lengthened Execute machine fits = same_lengthened _ _ _ (after_same (step.instruction machine.regs machine.shared.memory) machine)
 row_lengthened Check machine fits = same_lengthened _ _ _ refl
-row_lengthened Enter machine fits = enter_lengthened machine fits
+row_lengthened Enter machine fits = enter_lengthened machine fits.0
 row_lengthened (Return answer) machine fits = same_lengthened _ _ _ refl
 
 -- time changes nothing that a call sees of outputs

@@ -1,5 +1,5 @@
 -- That every row keeps what every state keeps.
-use Rattle.std.proofs.Common.{◌≡◌, ◌≢◌, ℕ, ◌==◌, Bool, true, false, cond, ℤ, List, [], ◌∷◌, Option, Some, None, Result, Ok, Err, OnOk, OnErr, slice_index, slice_set, refl, ◌∙◌, arith, get_or-set_other}
+use Rattle.std.proofs.Common.{◌≡◌, ◌≢◌, ap, ℕ, ◌==◌, Bool, true, false, cond, ℤ, List, [], ◌∷◌, Option, Some, None, Result, Ok, Err, OnOk, OnErr, slice_index, slice_set, refl, ◌∙◌, arith, get_or-set_other}
 use Rattle.std.proofs.lemmas.Grind.{common_steps}
 use Rattle.isa_decode.specs.declared.instruction.Instr.{Instr}
 use Rattle.isa_decode.specs.declared.instruction.Instr.TheVariants.{Lui, OpImm, Op, Ecall}
@@ -18,6 +18,7 @@ use Rattle.guest_core.specs.Call as call
 use Rattle.guest_core.specs.Machine.{Shared, Machine, due}
 use Rattle.guest_core.specs.Rows.{Row, Note, Take, ClearFlag, Execute, Check, Enter, Return, note_or, take_or, row_at, flagged_row, row_of, done, noted_at, noted, taken, flag_cleared, after, executed, checked, after_call, entered, returned, stepped, ticked}
 use Rattle.guest_core.specs.Kept.{Keeps, has_id, all_have}
+use Rattle.guest_core.proofs.Due.{nothing_due}
 use Rattle.guest_core.proofs.Noted.{found_has_id, all_have_more, all_have_left}
 
 -- ---- register 0
@@ -37,40 +38,43 @@ zero_kept number value regs = set_zero_by (number == 0) number value regs refl
 -- what is known of a state that the row fits
 abbrev pub Fits : Row → Machine → Type 0
 Fits (Note instance) machine = has_id (due machine.shared) instance.id ≡ true
-Fits (Take instance) machine = Unit {0}
+Fits (Take instance) machine = (machine.place ≡ Loop) × (first_of (due machine.shared) ≡ Some instance)
 Fits ClearFlag machine = machine.noted ≡ []
-Fits Execute machine = (machine.place ≡ Loop) × (machine.flag ≡ false)
+Fits Execute machine = (machine.place ≡ Loop) × (machine.flag ≡ false) × (due machine.shared ≡ [])
 Fits Check machine = machine.place ≡ Start
-Fits Enter machine = machine.place ≡ Window
-Fits (Return answer) machine = Unit {0}
+Fits Enter machine = (machine.place ≡ Window) × (due machine.shared ≡ [])
+Fits (Return answer) machine = machine.place ≡ Done answer
 
-flagged_by : (noted : List ℕ) (due : List Instance) (machine : Machine) → machine.noted ≡ noted → all_have noted due ≡ true → Fits (cond (is_empty noted) ClearFlag (take_or (first_of due) ClearFlag)) machine
-flagged_by [] due machine same all = same
-flagged_by (id ∷ noted) [] machine same all = cc
-flagged_by (id ∷ noted) (instance ∷ due) machine same all = tt
+flagged_by : (noted : List ℕ) (due : List Instance) (machine : Machine) → machine.place ≡ Loop → machine.noted ≡ noted → machine.shared.pending ≡ due → all_have noted due ≡ true → Fits (cond (is_empty noted) ClearFlag (take_or (first_of due) ClearFlag)) machine
+flagged_by [] due machine place same is all = same
+flagged_by (id ∷ noted) [] machine place same is all = cc
+flagged_by (id ∷ noted) (instance ∷ due) machine place same is all = (place, ap first_of is)
 
-flagged_fits : (machine : Machine) → Keeps machine → Fits (flagged_row machine) machine
+flagged_fits : (machine : Machine) → machine.place ≡ Loop → Keeps machine → Fits (flagged_row machine) machine
 unfolding flagged_row
-flagged_fits machine keeps = flagged_by machine.noted (due machine.shared) machine refl keeps.noted_due
+flagged_fits machine place keeps = flagged_by machine.noted (due machine.shared) machine place refl refl keeps.noted_due
 
-loop_by : (flag : Bool) (machine : Machine) → machine.flag ≡ flag → machine.place ≡ Loop → Keeps machine → Fits (cond flag (flagged_row machine) Execute) machine
-loop_by true machine flag place keeps = flagged_fits machine keeps
-loop_by false machine flag place keeps = (place, flag)
+-- with a clear flag nothing is noted, and so nothing is due
+clear_due : (machine : Machine) → Keeps machine → first_new (due machine.shared) machine.noted ≡ None → machine.flag ≡ false → due machine.shared ≡ []
+clear_due machine keeps none clear = nothing_due (due machine.shared) machine.noted none (keeps.flag_set clear)
 
-row_at_fits : (place : Place) (machine : Machine) → machine.place ≡ place → Keeps machine → Fits (row_at place machine) machine
-row_at_fits Loop machine place keeps = loop_by machine.flag machine refl place keeps
-row_at_fits Start machine place keeps = place
-row_at_fits Window machine place keeps = place
-row_at_fits (Done answer) machine place keeps = tt
+loop_by : (flag : Bool) (machine : Machine) → machine.flag ≡ flag → machine.place ≡ Loop → Keeps machine → first_new (due machine.shared) machine.noted ≡ None → Fits (cond flag (flagged_row machine) Execute) machine
+loop_by true machine flag place keeps none = flagged_fits machine place keeps
+loop_by false machine flag place keeps none = (place, flag, clear_due machine keeps none flag)
 
-note_or_fits : (new : Option Instance) (row : Row) (machine : Machine) → first_new (due machine.shared) machine.noted ≡ new → Fits row machine → Fits (note_or new row) machine
-note_or_fits None row machine none fits = fits
-note_or_fits (Some instance) row machine some fits = found_has_id _ (due machine.shared) instance some
+row_at_fits : (place : Place) (machine : Machine) → machine.place ≡ place → Keeps machine → first_new (due machine.shared) machine.noted ≡ None → Fits (row_at place machine) machine
+row_at_fits Loop machine place keeps none = loop_by machine.flag machine refl place keeps none
+row_at_fits Start machine place keeps none = place
+row_at_fits Window machine place keeps none = (place, clear_due machine keeps none (keeps.window_clear place))
+row_at_fits (Done answer) machine place keeps none = place
+
+note_or_fits : (new : Option Instance) (machine : Machine) → first_new (due machine.shared) machine.noted ≡ new → Keeps machine → Fits (note_or new (row_at machine.place machine)) machine
+note_or_fits None machine none keeps = row_at_fits machine.place machine refl keeps none
+note_or_fits (Some instance) machine some keeps = found_has_id _ (due machine.shared) instance some
 
 pub row_fits : (machine : Machine) → Keeps machine → Fits (row_of machine) machine
 unfolding row_of
-row_fits machine keeps =
-    note_or_fits (first_new (due machine.shared) machine.noted) (row_at machine.place machine) machine refl (row_at_fits machine.place machine refl keeps)
+row_fits machine keeps = note_or_fits (first_new (due machine.shared) machine.noted) machine refl keeps
 
 -- ---- each row keeps
 
@@ -257,7 +261,7 @@ done_keeps (Take instance) machine keeps fits = take_keeps instance machine keep
 done_keeps ClearFlag machine keeps fits = clear_keeps machine keeps fits
 done_keeps Execute machine keeps fits = execute_keeps machine keeps fits.0 fits.1
 done_keeps Check machine keeps fits = check_keeps machine keeps fits
-done_keeps Enter machine keeps fits = enter_keeps machine keeps fits
+done_keeps Enter machine keeps fits = enter_keeps machine keeps fits.0
 done_keeps (Return answer) machine keeps fits = return_keeps answer machine keeps
 
 pub tick_keeps : (machine : Machine) → Keeps machine → Keeps (ticked machine)

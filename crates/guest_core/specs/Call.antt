@@ -2,11 +2,12 @@
 -- Source: write(2), exit_group(2), and the numbers of Linux's generic system call table; that a write moves at most
 -- 1048576 bytes, and that its whole range is looked at before anything is written, is the project's own.
 use Rattle.std.specs.Prelude.{ℕ, ◌%◌, ◌++◌, [], ◌==◌, nat_lt, min, if◌then◌else◌, ℤ, pos, neg_ℤ, List, length, Option, Some, None, slice_set, slice_index_or}
+use Rattle.std.specs.Int.{w64, cast_unsigned}
 use Rattle.guest_core.specs.declared.ends.End.{End}
 use Rattle.guest_core.specs.declared.ends.End.TheVariants.{Exit}
 use Rattle.guest_core.specs.declared.registers.Regs.{Regs}
 use Rattle.guest_core.specs.Memory.{first_bad, bytes_at}
-use Rattle.guest_core.specs.Registers.{register}
+use Rattle.guest_core.specs.Registers.{register, with_register, after_four}
 use Rattle.guest_core.specs.Machine.{Shared}
 
 -- an answer, or the end of the process
@@ -57,6 +58,10 @@ exit_group code shared = record { shared = shared; outcome = Ends (Exit (code % 
 unfoldable pub called : Regs → Shared → Called
 called regs shared =
     if register regs 17 == 64 then write (register regs 10) (register regs 11) (register regs 12) shared else if register regs 17 == 94 then exit_group (register regs 10) shared else refused no_such_call shared
+
+-- an answer stands in a0, and pc behind the ecall
+abbrev pub answered : ℤ → Regs → Regs
+answered answer regs = after_four (with_register 10 (cast_unsigned w64 answer) regs)
 
 -- the device whose output a call lengthens, if it lengthens any
 unfoldable pub output_of_call : Regs → Shared → Option ℕ

@@ -1,6 +1,6 @@
 -- What the code's answer to an instruction says.
-use Rattle.guest_core.specs.declared.execute.Effect.{Effect}
-use Rattle.guest_core.specs.declared.execute.Effect.TheVariants.{Next, Call}
+use Rattle.guest_core.specs.declared.executing.Effect.{Effect}
+use Rattle.guest_core.specs.declared.executing.Effect.TheVariants.{Next, Call}
 use Rattle.guest_core.specs.declared.registers.Regs.{Regs}
 use Rattle.guest_core.specs.Instruction.{Outcome}
 

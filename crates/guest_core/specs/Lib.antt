@@ -3,6 +3,7 @@ pub mod Pending
 pub mod Registers
 pub mod Instruction
 pub mod Machine
+pub mod Signals
 pub mod Call
 pub mod Rows
 pub mod Event

@@ -1,7 +1,7 @@
 -- A state of the emulator: what the host has, and the thread's registers, place, flag and noted signals.
 -- The project's own, after the safe system calls of QEMU's linux-user: a thread looks at a flag, stands in a short
 -- window, and then enters the host.
-use Rattle.std.specs.Prelude.{ℕ, Bool, List, Option}
+use Rattle.std.specs.Prelude.{ℕ, ◌+◌, ◌-◌, ◌^◌, min, Bool, List, Option}
 use Rattle.guest_core.specs.declared.ends.End.{End}
 use Rattle.guest_core.specs.declared.places.Place.{Place}
 use Rattle.guest_core.specs.declared.queue.Instance.{Instance}
@@ -32,3 +32,7 @@ pub record Machine : Type 0 where
 -- the pending signals that act on the thread next, in order. All are forced, so that none is blocked
 abbrev pub due : Shared → List Instance
 due shared = shared.pending
+
+-- time goes on by 100 ns, at most to its type's end
+abbrev pub later : Shared → Shared
+later shared = record shared { clock = min (shared.clock + 100) (2 ^ 64 - 1) }

@@ -1,17 +1,15 @@
 -- A thread's step: which row fits its state, and what each row does.
 -- The project's own, after the safe system calls of QEMU's linux-user.
 use Rattle.std.specs.Prelude.{◌+◌, ◌-◌, ◌^◌, min, ◌==◌, true, false, not, if◌then◌else◌, ℤ, [], ◌∷◌, ◌++◌, filter, Option, Some, None}
-use Rattle.std.specs.Int.{w64, cast_unsigned}
 use Rattle.guest_core.specs.declared.ends.End.TheVariants.{Killed}
 use Rattle.guest_core.specs.declared.places.Place.{Place}
 use Rattle.guest_core.specs.declared.places.Place.TheVariants.{Loop, Start, Window, Done}
-use Rattle.guest_core.specs.declared.queue.Fault.{Fault}
 use Rattle.guest_core.specs.declared.queue.Instance.{Instance}
 use Rattle.guest_core.specs.Pending.{first_new, first_of, is_empty}
-use Rattle.guest_core.specs.Registers.{with_register, after_four}
 use Rattle.guest_core.specs.Instruction as step
 use Rattle.guest_core.specs.Call as call
-use Rattle.guest_core.specs.Machine.{Shared, Machine, due}
+use Rattle.guest_core.specs.Machine.{Machine, due, later}
+use Rattle.guest_core.specs.Signals.{forced, taken_out, end_of_taking}
 
 pub data Row : Type 0 where
   Note : Instance → Row
@@ -61,23 +59,16 @@ noted instance machine = record machine {
   place = noted_at machine.place;
 }
 
--- the signal leaves the pending ones. Its default action is to end the process
+-- the signal is taken, and is noted no more
 unfoldable pub taken : Instance → Machine → Machine
 taken instance machine = record machine {
-  shared = record machine.shared { pending = filter (λ other. not (other.id == instance.id)) machine.shared.pending };
+  shared = taken_out instance machine.shared;
   noted = filter (λ id. not (id == instance.id)) machine.noted;
-  end = Some (Killed instance.fault.signal);
+  end = Some (end_of_taking instance);
 }
 
 unfoldable pub flag_cleared : Machine → Machine
 flag_cleared machine = record machine { flag = false }
-
--- a forced signal is added without a test
-abbrev pub forced : Fault → Shared → Shared
-forced fault shared = record shared {
-  pending = shared.pending ++ record { id = shared.next_id; fault = fault } ∷ [];
-  next_id = shared.next_id + 1;
-}
 
 abbrev pub after : step.Outcome → Machine → Machine
 after (step.Outcome.Runs regs) machine = record machine { regs = regs }
@@ -102,12 +93,9 @@ after_call called machine = after_outcome called.outcome (record machine { share
 unfoldable pub entered : Machine → Machine
 entered machine = after_call (call.called machine.regs machine.shared) machine
 
--- the answer stands in a0, and pc behind the call
+-- the answer reaches the registers
 unfoldable pub returned : ℤ → Machine → Machine
-returned answer machine = record machine {
-  regs = after_four (with_register 10 (cast_unsigned w64 answer) machine.regs);
-  place = Loop;
-}
+returned answer machine = record machine { regs = call.answered answer machine.regs; place = Loop }
 
 abbrev pub done : Row → Machine → Machine
 done (Note instance) machine = noted instance machine
@@ -122,9 +110,9 @@ done (Return answer) machine = returned answer machine
 unfoldable pub stepped : Machine → Machine
 stepped machine = done (row_of machine) machine
 
--- time goes on by 100 ns, at most to its type's end
+-- a step takes its time
 unfoldable pub ticked : Machine → Machine
-ticked machine = record machine { shared = record machine.shared { clock = min (machine.shared.clock + 100) (2 ^ 64 - 1) } }
+ticked machine = record machine { shared = later machine.shared }
 
 -- ---- which steps take no memory
 

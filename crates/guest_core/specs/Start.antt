@@ -3,8 +3,9 @@
 use Rattle.std.specs.Prelude.{ℕ, ◌-◌, ◌++◌, false, [], length, replicate, None}
 use Rattle.elf_file.specs.Reading.{Image, SegmentImage}
 use Rattle.guest_core.specs.declared.places.Place.TheVariants.{Loop}
+use Rattle.guest_core.specs.declared.registers.Regs.{Regs}
 use Rattle.guest_core.specs.Memory.{Range}
-use Rattle.guest_core.specs.Machine.{Machine}
+use Rattle.guest_core.specs.Machine.{Shared, Machine}
 
 -- the file's bytes, and zeros behind them
 abbrev pub loaded : SegmentImage → Range
@@ -13,16 +14,23 @@ loaded segment = record {
   bytes = segment.file_bytes ++ replicate (segment.size - length segment.file_bytes) 0;
 }
 
+-- what the system has at first
+abbrev pub first_shared : Image → ℕ → Shared
+first_shared image devices = record {
+  memory = loaded image.segment;
+  outputs = replicate devices [];
+  pending = [];
+  next_id = 0;
+  clock = 0;
+}
+
+abbrev pub first_regs : Image → Regs
+first_regs image = record { pc = image.entry; x = replicate 32 0 }
+
 unfoldable pub started : Image → ℕ → Machine
 started image devices = record {
-  shared = record {
-    memory = loaded image.segment;
-    outputs = replicate devices [];
-    pending = [];
-    next_id = 0;
-    clock = 0;
-  };
-  regs = record { pc = image.entry; x = replicate 32 0 };
+  shared = first_shared image devices;
+  regs = first_regs image;
   place = Loop;
   flag = false;
   noted = [];

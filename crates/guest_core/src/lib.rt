@@ -41,7 +41,7 @@
 mod calls;
 mod ends;
 mod events;
-mod execute;
+mod executing;
 mod machine;
 mod output;
 mod places;
@@ -55,7 +55,9 @@ mod state;
 
 pub use ends::End;
 pub use events::Event;
-pub use machine::{Core, CoreRefusal, FIRST_THREAD};
+pub use executing::{Effect, execute};
+pub use machine::{Core, CoreParts, CoreRefusal, FIRST_THREAD};
+pub use output::Outputs;
 pub use places::Place;
 pub use queue::{Fault, Instance};
 pub use registers::Regs;

@@ -7,9 +7,11 @@ ghost use Rattle.guest_core.specs.Growth.{lengthens, Lengthened};
 use crate::calls::WRITE;
 use crate::ends::End;
 use crate::events::Event;
+use crate::output::Outputs;
 use crate::places::Place;
 use crate::registers::Regs;
-use crate::state::State;
+use crate::segment::Memory;
+use crate::state::{Host, State};
 use std::marker::Model;
 
 /// The one thread of a process.
@@ -22,6 +24,14 @@ pub enum CoreRefusal {
     NotNow,
     /// Want of memory.
     Memory,
+}
+
+/// What a core is made of, beside what is pending.
+#[derive(Drop)]
+pub struct CoreParts {
+    pub memory: Memory,
+    pub outputs: Outputs,
+    pub regs: Regs,
 }
 
 /// The emulator's machine. Contracts see its whole state; its type keeps what `Keeps` says of each state.
@@ -132,6 +142,29 @@ impl Core {
             Some(&self.state.regs)
         } else {
             None
+        }
+    }
+
+    /// The memory, the outputs and the registers.
+    pub fn into_parts(self) -> CoreParts
+        ensures memory { result.memory ≡ self.shared.memory }
+        ensures outputs { result.outputs ≡ self.shared.outputs }
+        ensures regs { result.regs ≡ self.regs }
+    {
+        let Core { state } = self;
+        let State {
+            host: Host {
+                memory,
+                outputs,
+                ..
+            },
+            regs,
+            ..
+        } = state;
+        CoreParts {
+            memory,
+            outputs,
+            regs,
         }
     }
 

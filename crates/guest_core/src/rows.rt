@@ -8,7 +8,7 @@ ghost use Rattle.guest_core.specs.Instruction.{instruction, IsFaultless, illegal
 
 use crate::calls::Outcome;
 use crate::ends::End;
-use crate::execute::{Effect, execute};
+use crate::executing::{Effect, execute};
 use crate::places::Place;
 use crate::queue::{Fault, Instance};
 use crate::signal::SigNo;

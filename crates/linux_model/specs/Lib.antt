@@ -1,0 +1,3 @@
+pub mod Process
+pub mod Steps
+pub mod Following

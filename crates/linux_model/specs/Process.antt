@@ -1,0 +1,30 @@
+-- A Linux process, as far as programs see it. It knows no place, flag, window or journal: signals act on it directly,
+-- between two instructions.
+-- Source: signal(7); the form is the project's own.
+use Rattle.std.specs.Prelude.{ℕ, List, Option, None}
+use Rattle.elf_file.specs.Reading.{Image}
+use Rattle.guest_core.specs.declared.ends.End.{End}
+use Rattle.guest_core.specs.declared.registers.Regs.{Regs}
+use Rattle.guest_core.specs.Machine.{Shared}
+use Rattle.guest_core.specs.Start.{first_shared, first_regs}
+
+-- what the system has, and the registers of the one thread, which runs until the end
+pub record ProcessState : Type 0 where
+  pub shared : Shared
+  pub regs : Regs
+  pub end : Option End
+
+-- a process that starts a file
+unfoldable pub begun : Image → ℕ → ProcessState
+begun image devices = record {
+  shared = first_shared image devices;
+  regs = first_regs image;
+  end = None;
+}
+
+-- what is seen of a run: the bytes written to each device, in order, and the end
+abbrev pub seen_outputs : ProcessState → List (List ℕ)
+seen_outputs process = process.shared.outputs
+
+abbrev pub seen_end : ProcessState → Option End
+seen_end process = process.end

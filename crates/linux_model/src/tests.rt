@@ -1,0 +1,85 @@
+use super::*;
+use elf_file::read;
+use guest_core::{End, FIRST_THREAD, start};
+use std::alloc::Global;
+use std::test::Fail;
+
+/// The headers of a file of 132 bytes, loaded whole at 0x10000, whose code begins at 0x10078.
+const HEADERS: [u8; 120] = [
+    0x7F, b'E', b'L', b'F', 2, 1, 1, 0, 0, 0, 0, 0, 0, 0, 0, 0, // identity
+    2, 0, 243, 0, 1, 0, 0, 0, 0x78, 0, 1, 0, 0, 0, 0, 0, // type, machine, version, entry
+    64, 0, 0, 0, 0, 0, 0, 0, 0, 0, 0, 0, 0, 0, 0, 0, // program headers, sections
+    1, 0, 0, 0, 64, 0, 56, 0, 1, 0, 0, 0, 0, 0, 0, 0, // flags, sizes, numbers
+    1, 0, 0, 0, 5, 0, 0, 0, 0, 0, 0, 0, 0, 0, 0, 0, // type, rights, offset
+    0, 0, 1, 0, 0, 0, 0, 0, 0, 0, 1, 0, 0, 0, 0, 0, // address
+    132, 0, 0, 0, 0, 0, 0, 0, 132, 0, 0, 0, 0, 0, 0, 0, // sizes
+    0, 16, 0, 0, 0, 0, 0, 0, // alignment
+];
+
+/// Ends with 7: two instructions and a call.
+const EXITS: [u32; 3] = [0x0070_0513, 0x05E0_0893, 0x0000_0073];
+
+const TICK: Label = Label::Tick;
+
+const INSTR: Label = Label::Instr(FIRST_THREAD);
+
+const CALL: Label = Label::Call(FIRST_THREAD);
+
+/// The labels of that program's five steps, of which two have no label but a tick.
+const LABELS: [Label; 8] = [TICK, INSTR, TICK, INSTR, TICK, TICK, TICK, CALL];
+
+fn process(alloc: Global, words: &[u32]) -> Result<Process, Fail> {
+    let mut bytes = HEADERS.to_vec(alloc)?;
+    for word in words {
+        bytes.extend_from_slice(&word.to_le_bytes())?;
+    }
+    let elf = read(alloc, &bytes)?;
+    Ok(Process::of(alloc, start(alloc, &elf, 3)?))
+}
+
+#[test]
+fn ends_with_its_code(rt: HostRuntime) -> Result<(), Fail> {
+    let process = follow(process(rt.alloc(), &EXITS)?, &LABELS)?;
+    assert!(rt; matches!(process.ended(), Some(End::Exit(7))));
+    match process.regs(FIRST_THREAD) {
+        Some(regs) => assert_eq!(rt; regs.register(17), 94),
+        None => assert!(rt; false),
+    }
+    assert!(rt; process.regs(1001).is_none());
+    assert_eq!(rt; process.output(1), Some([].as_slice()));
+    assert_eq!(rt; process.output(3), None);
+    Ok(())
+}
+
+#[test]
+fn lives_before_the_last_label(rt: HostRuntime) -> Result<(), Fail> {
+    let process = follow(process(rt.alloc(), &EXITS)?, &LABELS[..7])?;
+    assert!(rt; process.ended().is_none());
+    Ok(())
+}
+
+#[test]
+fn the_first_label_that_is_not_allowed(rt: HostRuntime) -> Result<(), Fail> {
+    let illegal = [0, 0, 0];
+    let table: [(&[u32; 3], &[Label], usize); 6] = [
+        // a call while a signal is due
+        (&illegal, &[TICK, INSTR, CALL], 2),
+        // an instruction while a signal is due
+        (&illegal, &[INSTR, INSTR], 1),
+        // a signal that isn't there
+        (&illegal, &[INSTR, Label::Take(FIRST_THREAD, 1)], 1),
+        // another thread
+        (&EXITS, &[TICK, Label::Instr(1001)], 1),
+        // an instruction at an ecall
+        (&EXITS, &[INSTR, INSTR, INSTR], 2),
+        // after the end
+        (&illegal, &[INSTR, Label::Take(FIRST_THREAD, 0), TICK], 2),
+    ];
+    for (words, labels, index) in table {
+        match follow(process(rt.alloc(), words)?, labels) {
+            Err(FollowFault::NotAllowed(found)) => assert_eq!(rt; found, index),
+            _ => assert!(rt; false, "at {index}"),
+        }
+    }
+    Ok(())
+}
