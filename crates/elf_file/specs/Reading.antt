@@ -2,7 +2,7 @@
 -- Source: System V ABI, ELF-64, "Program header".
 use Rattle.std.specs.Prelude.{ℕ, ◌≡◌, List, take, drop, Option, Some, None, Result, Ok, Err}
 use Rattle.elf_file.specs.declared.fault.ElfFault.{ElfFault}
-use Rattle.elf_file.specs.declared.fault.ElfFault.TheVariants.{NotYet, Memory}
+use Rattle.elf_file.specs.declared.fault.ElfFault.TheVariants.{Memory}
 use Rattle.elf_file.specs.declared.image.Elf.{Elf}
 use Rattle.elf_file.specs.declared.image.Segment.{Segment}
 use Rattle.elf_file.specs.Fields.{e_entry, p_offset, p_vaddr, p_filesz, p_memsz}
@@ -48,4 +48,4 @@ image elf = record { entry = elf.entry; segment = segment_image elf.segment }
 abbrev pub Gives : Result Elf ElfFault → Result Image ElfFault → Type 0
 Gives (Ok elf) read = read ≡ Ok (image elf)
 Gives (Err Memory) read = Unit {0}
-Gives (Err NotYet) read = read ≡ Err NotYet
+Gives (Err fault) read = read ≡ Err fault

@@ -1,8 +1,27 @@
-/// Why a file is not read.
+/// Why a file is not read: the first of its checks that fails.
 #[derive(Clone, Copy, Debug, PartialEq, Eq)]
 pub enum ElfFault {
-    /// A check of the file fails, or it is of a form that is not read yet.
+    /// The file ends before its header, or before its program headers do.
+    Short,
+    /// It is no ELF file of 64 bits, little-endian, of version 1.
+    NotElf,
+    /// It is for another machine.
+    NotRiscv,
+    /// It is neither an executable nor a shared object.
+    Kind,
+    /// It has a float ABI.
+    FloatAbi,
+    /// It is for RV32E or RV64E.
+    Embedded,
+    /// Its program headers have this size, and not 56 bytes.
+    HeaderSize(u16),
+    /// It is of a form that is not read yet.
     NotYet,
+    /// The segment of this program header has more bytes in the file than in memory, or bytes past the file's end, or
+    /// is not within the addresses of programs.
+    BadSegment(u16),
+    /// The entry is odd, or outside the bytes that can be executed.
+    Entry,
     /// Want of memory.
     Memory,
 }

@@ -1,6 +1,6 @@
 ghost use Rattle.std.specs.Prelude.{◌≡◌, ◌≤◌, ◌<◌, ◌+◌, ◌%◌, None, Some, length, MatchResult, IfOk, OnOk};
 ghost use Rattle.elf_file.specs.Fields.{e_phoff, e_entry};
-ghost use Rattle.elf_file.specs.Checks.{first_fault, checks, page_count, header_checks, table_checks, segment_checks, entry_checks};
+ghost use Rattle.elf_file.specs.Checks.{first_fault, checks, header_checks, table_checks, segment_checks, entry_checks};
 ghost use Rattle.elf_file.specs.Reading.{reading, Gives};
 ghost use Rattle.elf_file.specs.Header.{IsHeader};
 
@@ -31,10 +31,6 @@ const READ_EXECUTE: u32 = 5;
 const LOWEST: u64 = 0x1000;
 
 const HIGHEST: u64 = 0x3F_0000_0000;
-
-const PAGE: u64 = 4096;
-
-const MOST_PAGES: u64 = 65536;
 
 /// Reads a file. Costs by the length of its segment's bytes, which are copied.
 ///
@@ -75,9 +71,14 @@ fn check(bytes: &[u8]) -> Result<ProgramHeader, ElfFault>
 {
     check_header(bytes)?;
     let header = check_table(bytes)?;
-    check_segment(bytes, &header)?;
-    check_entry(bytes, &header)?;
-    Ok(header)
+    match check_segment(bytes, &header) {
+        Ok(()) => {}
+        Err(fault) => return Err(fault),
+    }
+    match check_entry(bytes, &header) {
+        Ok(()) => Ok(header),
+        Err(fault) => Err(fault),
+    }
 }
 
 /// The program header.
@@ -97,24 +98,24 @@ fn check_header(bytes: &[u8]) -> Result<(), ElfFault>
     ensures long { OnOk result (64 ≤ length bytes.now) }
 {
     if bytes.len() < HEADER {
-        return Err(ElfFault::NotYet);
+        return Err(ElfFault::Short);
     }
     if !bytes.starts_with(&IDENTITY) {
-        return Err(ElfFault::NotYet);
+        return Err(ElfFault::NotElf);
     }
     if u16_at(bytes, 18) != RISC_V {
-        return Err(ElfFault::NotYet);
+        return Err(ElfFault::NotRiscv);
     }
     let kind = u16_at(bytes, 16);
     if kind != 2 && kind != 3 {
-        return Err(ElfFault::NotYet);
+        return Err(ElfFault::Kind);
     }
     let flags = u32_at(bytes, 48);
     if flags & FLOAT_ABI != 0 {
-        return Err(ElfFault::NotYet);
+        return Err(ElfFault::FloatAbi);
     }
     if flags & EMBEDDED != 0 {
-        return Err(ElfFault::NotYet);
+        return Err(ElfFault::Embedded);
     }
     Ok(())
 }
@@ -126,13 +127,14 @@ fn check_table(bytes: &[u8]) -> Result<ProgramHeader, ElfFault>
     ensures header { IfOk result (IsHeader bytes.now) }
 {
     let count = u64::from(u16_at(bytes, 56));
-    if count != 0 && u16_at(bytes, 54) != 56 {
-        return Err(ElfFault::NotYet);
+    let size = u16_at(bytes, 54);
+    if count != 0 && size != 56 {
+        return Err(ElfFault::HeaderSize(size));
     }
     let table = u64_at(bytes, 32);
     let length = bytes.len() as u64;
     if count != 0 && (length < PROGRAM_HEADER * count || length - PROGRAM_HEADER * count < table) {
-        return Err(ElfFault::NotYet);
+        return Err(ElfFault::Short);
     }
     if u16_at(bytes, 16) != 2 {
         return Err(ElfFault::NotYet);
@@ -174,33 +176,19 @@ fn check_segment(bytes: &[u8], header: &ProgramHeader) -> Result<(), ElfFault>
         return Err(ElfFault::NotYet);
     }
     if header.memory_size < header.file_size {
-        return Err(ElfFault::NotYet);
+        return Err(ElfFault::BadSegment(0));
     }
     let length = bytes.len() as u64;
     if length < header.file_size || length - header.file_size < header.offset {
-        return Err(ElfFault::NotYet);
+        return Err(ElfFault::BadSegment(0));
     }
     if header.address < LOWEST {
-        return Err(ElfFault::NotYet);
+        return Err(ElfFault::BadSegment(0));
     }
     if HIGHEST < header.memory_size || HIGHEST - header.memory_size < header.address {
-        return Err(ElfFault::NotYet);
-    }
-    if MOST_PAGES < pages(header.address, header.memory_size) {
-        return Err(ElfFault::NotYet);
+        return Err(ElfFault::BadSegment(0));
     }
     Ok(())
-}
-
-/// How many pages have a byte of the range.
-fn pages(at: u64, size: u64) -> u64
-    requires { at + size ≤ 0x3F00000000 }
-    ensures { result ≡ page_count at size }
-{
-    if size == 0 {
-        return 0;
-    }
-    (at + size - 1) / PAGE - at / PAGE + 1
 }
 
 #[tactic(auto, unfolding(crate::specs::Checks::first_fault, crate::specs::Checks::entry_checks))]
@@ -215,13 +203,13 @@ fn check_entry(bytes: &[u8], header: &ProgramHeader) -> Result<(), ElfFault>
 {
     let entry = u64_at(bytes, 24);
     if entry % 2 != 0 {
-        return Err(ElfFault::NotYet);
+        return Err(ElfFault::Entry);
     }
     if entry < header.address {
-        return Err(ElfFault::NotYet);
+        return Err(ElfFault::Entry);
     }
     if header.address + header.memory_size <= entry {
-        return Err(ElfFault::NotYet);
+        return Err(ElfFault::Entry);
     }
     Ok(())
 }

@@ -72,58 +72,89 @@ fn a_file_of_one_segment(rt: HostRuntime) -> Result<(), Fail> {
 }
 
 #[test]
-fn each_check_refuses(rt: HostRuntime) -> Result<(), Fail> {
-    let table: [(usize, u8); 20] = [
+fn each_check_has_its_name(rt: HostRuntime) -> Result<(), Fail> {
+    let table: [(usize, u8, ElfFault); 27] = [
         // magic, class, order, version
-        (0, 0),
-        (4, 1),
-        (5, 2),
-        (6, 0),
-        // another machine, a shared object, float ABIs, RV32E, the size and the number of program headers
-        (18, 62),
-        (16, 3),
-        (16, 1),
-        (48, 2),
-        (48, 4),
-        (48, 8),
-        (54, 55),
-        (56, 0),
-        (56, 2),
-        // the program header: not loaded, writable, not executable, larger in the file, past the file's end, low, high
-        (64, 2),
-        (68, 7),
-        (68, 4),
-        (96, 9),
-        (72, 121),
-        (82, 0),
-        // an odd entry
-        (24, 3),
+        (0, 0, ElfFault::NotElf),
+        (4, 1, ElfFault::NotElf),
+        (5, 2, ElfFault::NotElf),
+        (6, 0, ElfFault::NotElf),
+        // another machine, an object file, a shared object, float ABIs, RV64E
+        (18, 62, ElfFault::NotRiscv),
+        (16, 1, ElfFault::Kind),
+        (16, 3, ElfFault::NotYet),
+        (48, 2, ElfFault::FloatAbi),
+        (48, 4, ElfFault::FloatAbi),
+        (48, 8, ElfFault::Embedded),
+        (48, 12, ElfFault::FloatAbi),
+        // the size, the number and the place of program headers
+        (54, 55, ElfFault::HeaderSize(55)),
+        (55, 1, ElfFault::HeaderSize(312)),
+        (56, 0, ElfFault::NotYet),
+        (56, 2, ElfFault::Short),
+        (32, 68, ElfFault::Short),
+        // the program header: not loaded, writable, not executable
+        (64, 2, ElfFault::NotYet),
+        (68, 7, ElfFault::NotYet),
+        (68, 4, ElfFault::NotYet),
+        // larger in the file than in memory, past the file's end, too low, too high
+        (96, 9, ElfFault::BadSegment(0)),
+        (72, 121, ElfFault::BadSegment(0)),
+        (82, 0, ElfFault::BadSegment(0)),
+        (84, 0x3F, ElfFault::BadSegment(0)),
+        // an odd entry, one before the segment, one behind it
+        (24, 3, ElfFault::Entry),
+        (26, 0, ElfFault::Entry),
+        (24, 8, ElfFault::Entry),
+        (31, 0x80, ElfFault::Entry),
     ];
-    for (place, value) in table {
+    for (place, value, fault) in table {
         let bytes = changed(rt.alloc(), place, value)?;
-        assert!(rt;
-            matches!(read(rt.alloc(), &bytes), Err(ElfFault::NotYet)),
-            "byte {place} is {value}"
-        );
+        match read(rt.alloc(), &bytes) {
+            Ok(_) => assert!(rt; false, "byte {place} is {value}"),
+            Err(found) => assert_eq!(rt; found, fault, "byte {place} is {value}"),
+        }
     }
     Ok(())
 }
 
 #[test]
-fn bounds_of_the_segment(rt: HostRuntime) -> Result<(), Fail> {
-    // the entry stands behind the last byte
-    let bytes = changed(rt.alloc(), 24, 8)?;
-    assert!(rt; matches!(read(rt.alloc(), &bytes), Err(ElfFault::NotYet)));
+fn a_file_that_ends_in_its_headers(rt: HostRuntime) -> Result<(), Fail> {
+    for length in [0, 63, 64, 119] {
+        let mut bytes = file(rt.alloc())?;
+        bytes.truncate(length);
+        assert!(rt;
+            matches!(read(rt.alloc(), &bytes), Err(ElfFault::Short)),
+            "{length}"
+        );
+    }
+    let mut bytes = file(rt.alloc())?;
+    bytes.truncate(122);
+    assert!(rt; matches!(read(rt.alloc(), &bytes), Err(ElfFault::BadSegment(0))));
+    Ok(())
+}
+
+#[test]
+fn the_last_place_of_an_entry(rt: HostRuntime) -> Result<(), Fail> {
     let bytes = changed(rt.alloc(), 24, 6)?;
     assert!(rt; read(rt.alloc(), &bytes).is_ok());
-    // 65,537 pages; and 65,536 pages
-    let mut bytes = changed(rt.alloc(), 107, 0x10)?;
-    assert!(rt; matches!(read(rt.alloc(), &bytes), Err(ElfFault::NotYet)));
-    set(&mut bytes, 104, 0);
+    Ok(())
+}
+
+#[test]
+fn the_highest_segment(rt: HostRuntime) -> Result<(), Fail> {
+    // it ends at 0x3F00000000, and its entry is its first byte
+    let mut bytes = file(rt.alloc())?;
+    for place in [24, 80] {
+        set(&mut bytes, place, 0xF8);
+        set(&mut bytes, place + 1, 0xFF);
+        set(&mut bytes, place + 2, 0xFF);
+        set(&mut bytes, place + 3, 0xFF);
+        set(&mut bytes, place + 4, 0x3E);
+    }
     assert!(rt; read(rt.alloc(), &bytes).is_ok());
-    // a file of 63 bytes
-    bytes.truncate(63);
-    assert!(rt; matches!(read(rt.alloc(), &bytes), Err(ElfFault::NotYet)));
+    set(&mut bytes, 104, 9);
+    assert!(rt; matches!(read(rt.alloc(), &bytes), Err(ElfFault::BadSegment(0))));
     Ok(())
 }
 

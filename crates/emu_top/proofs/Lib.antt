@@ -7,3 +7,4 @@ pub mod TurnFacts
 pub mod RunFacts
 pub mod TopFacts
 pub mod RowsSimulate
+pub mod CompleteFacts

@@ -1,5 +1,5 @@
 -- Each event's labels are steps of the process machine, from the view before it to the view after it. One lemma a row.
-use Rattle.std.proofs.Common.{◌≡◌, ◌≢◌, ℕ, ◌==◌, ◌&&◌, Bool, true, false, cond, is_none, ℤ, List, [], ◌∷◌, ◌++◌, Option, Some, None, refl, ap, sym, ◌∙◌, subst, arith}
+use Rattle.std.proofs.Common.{◌≡◌, ℕ, ◌==◌, ◌&&◌, Bool, true, false, cond, is_none, ℤ, List, [], ◌∷◌, ◌++◌, Option, Some, None, refl, ap, sym, ◌∙◌, subst, arith}
 use Rattle.std.proofs.lemmas.Bool.Decides.{nat_tests}
 use Rattle.std.proofs.lemmas.Grind.{common_steps}
 use Rattle.elf_file.specs.Reading.{Image}
@@ -11,7 +11,7 @@ use Rattle.guest_core.specs.declared.places.Place.TheVariants.{Loop, Start, Wind
 use Rattle.guest_core.specs.declared.queue.Instance.{Instance}
 use Rattle.guest_core.specs.declared.registers.Regs.{Regs}
 use Rattle.guest_core.specs.Call as call
-use Rattle.guest_core.specs.Event.{first_thread, is_enabled, event_after, happens, run}
+use Rattle.guest_core.specs.Event.{first_thread, is_enabled, event_after, run}
 use Rattle.guest_core.specs.Instruction as instruction
 use Rattle.guest_core.specs.Kept.{Keeps}
 use Rattle.guest_core.specs.Machine.{Shared, Machine, due}

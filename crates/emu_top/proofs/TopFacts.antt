@@ -1,9 +1,11 @@
 -- From a run of the core to what the top call answers.
-use Rattle.std.proofs.Common.{◌≡◌, ℕ, ◌<◌, List, [], ◌∷◌, ◌++◌, append-nil, replicate, Some, None, Option, Result, Ok, Err, IfErr, map, length, inr, refl, ap, sym, ◌∙◌, subst}
+use Rattle.std.proofs.Common.{◌≡◌, ℕ, ◌<◌, ◌≤◌, List, [], ◌∷◌, ◌++◌, append-nil, replicate, Some, None, Option, Result, Ok, Err, IfErr, map, length, ◌⊎◌, inl, inr, refl, ap, sym, ◌∙◌, subst}
 use Rattle.std.proofs.lemmas.List.{length-map, length-replicate}
-use Rattle.elf_file.specs.Reading.{Image}
+use Rattle.elf_file.specs.declared.fault.ElfFault.{ElfFault}
+use Rattle.elf_file.specs.declared.fault.ElfFault.TheVariants as elf_faults
+use Rattle.elf_file.specs.Reading.{Image, Gives}
 use Rattle.guest_core.specs.Machine.{Machine}
-use Rattle.guest_core.specs.Start.{started}
+use Rattle.guest_core.specs.Start.{started, wanted_pages, most_pages}
 use Rattle.guest_core.specs.declared.ends.End.{End}
 use Rattle.emu_top.specs.declared.solo.Halt.{Halt}
 use Rattle.emu_top.specs.declared.solo.Halt.TheVariants as halts
@@ -15,7 +17,11 @@ use Rattle.emu_top.specs.Sending.{sent}
 use Rattle.guest_core.specs.Event.{run}
 use Rattle.emu_top.specs.declared.folder.Entry.{Entry}
 use Rattle.emu_top.specs.Journal.{History}
-use Rattle.emu_top.specs.Solo.{budget, RunsFrom, CoreFinishes, CoreStops, Prepared, Journeys, Finishes, IsCaused, halt_cause}
+use Rattle.emu_top.specs.Solo.{budget, RunsFrom, CoreFinishes, CoreStops, Prepared, Journeys, Finishes, Untouched, StoppedBy, Wants, IsCaused, Faults, halt_cause}
+use Rattle.emu_top.specs.Notes.{cause_line, Tries, TellsFault}
+use Rattle.emu_top.specs.declared.cause.Cause.{Cause}
+use Rattle.emu_top.specs.declared.cause.Cause.TheVariants as causes
+use Rattle.emu_top.specs.declared.cause.Part.TheVariants as parts
 use Rattle.emu_top.specs.View.{view}
 use Rattle.emu_top.proofs.RowsSimulate.{start_simulates}
 
@@ -66,12 +72,13 @@ start_quiet held devices elf count core is same =
 
 -- ---- the answer
 
-journeys : (tree : Option (List Entry)) (words : List (List ℕ)) (elf : Image) (devices : ℕ) (core : Machine) (journal : History) (last : Machine) → Prepared tree words elf → core ≡ started elf devices → RunsFrom core journal last → Journeys tree words devices journal last (view last)
-journeys tree words elf devices core journal last prepared is runs =
+journeys : (tree : Option (List Entry)) (words : List (List ℕ)) (elf : Image) (devices : ℕ) (core : Machine) (journal : History) (last : Machine) → Prepared tree words elf → wanted_pages elf ≤ most_pages → core ≡ started elf devices → RunsFrom core journal last → Journeys tree words devices journal last (view last)
+journeys tree words elf devices core journal last prepared fit is runs =
     let enabled : run (Some (started elf devices)) journal.events ≡ Some last = ap (λ (m : Machine). run (Some m) journal.events) (sym is) ∙ runs.enabled in
     record {
       elf = elf;
       prepared = prepared;
+      pages_fit = fit;
       enabled = enabled;
       within = runs.within;
       budget_is = runs.budget_is;
@@ -80,29 +87,115 @@ journeys tree words elf devices core journal last prepared is runs =
     }
 
 -- a run of the core to its end is what the top call shows
-pub finishes : {D : Type 0} (held : D → Option (List ℕ)) (tree : Option (List Entry)) (words : List (List ℕ)) (elf : Image) (core : Machine) (before : List D) (end : End) (status : ℕ) (journal : History) (after : List D) → CoreFinishes held core before end status journal after → Prepared tree words elf → core ≡ started elf (length before) → Finishes held tree words before end status journal after
-finishes held tree words elf core before end status journal after finished prepared is = record {
+pub finishes : {D : Type 0} (held : D → Option (List ℕ)) (tree : Option (List Entry)) (words : List (List ℕ)) (elf : Image) (core : Machine) (before : List D) (end : End) (status : ℕ) (journal : History) (after : List D) → CoreFinishes held core before end status journal after → Prepared tree words elf → wanted_pages elf ≤ most_pages → core ≡ started elf (length before) → Finishes held tree words before end status journal after
+finishes held tree words elf core before end status journal after finished prepared fit is = record {
   last = finished.last;
   process = view finished.last;
-  journeys = journeys tree words elf (length before) core journal finished.last prepared is finished.runs;
+  journeys = journeys tree words elf (length before) core journal finished.last prepared fit is finished.runs;
   end_is = finished.end_is;
   status_is = finished.status_is;
   all_sent = finished.all_sent;
 }
 
 -- and one that stopped is a cause
-pub is_caused : {D : Type 0} (held : D → Option (List ℕ)) (writes : D → ℕ) (tree : Option (List Entry)) (reads_before reads_after : ℕ) (words : List (List ℕ)) (elf : Image) (core : Machine) (before : List D) (halt : Halt) (journal : History) (after : List D) → CoreStops held writes core before halt journal after → Prepared tree words elf → core ≡ started elf (length before) → IsCaused held writes tree reads_before reads_after words before (halt_cause halt) journal after
-is_caused held writes tree reads_before reads_after words elf core before (halts.Device device) journal after stopped prepared is = record {
+pub is_caused : {D : Type 0} (held : D → Option (List ℕ)) (writes : D → ℕ) (tree : Option (List Entry)) (reads_before reads_after : ℕ) (words : List (List ℕ)) (elf : Image) (core : Machine) (before : List D) (halt : Halt) (journal : History) (after : List D) → CoreStops held writes core before halt journal after → Prepared tree words elf → wanted_pages elf ≤ most_pages → core ≡ started elf (length before) → IsCaused held writes tree reads_before reads_after words before (halt_cause halt) journal after
+is_caused held writes tree reads_before reads_after words elf core before (halts.Device device) journal after stopped prepared fit is = record {
   last = stopped.0;
   process = view stopped.0;
-  journeys = journeys tree words elf (length before) core journal stopped.0 prepared is stopped.1;
+  journeys = journeys tree words elf (length before) core journal stopped.0 prepared fit is stopped.1;
   sent_up_to = stopped.2;
   is_device = stopped.3;
   rose = stopped.4;
 }
-is_caused held writes tree reads_before reads_after words elf core before halts.Memory journal after stopped prepared is = inr (record {
+is_caused held writes tree reads_before reads_after words elf core before halts.Memory journal after stopped prepared fit is = inr (record {
   last = stopped.0;
   process = view stopped.0;
-  journeys = journeys tree words elf (length before) core journal stopped.0 prepared is stopped.1;
+  journeys = journeys tree words elf (length before) core journal stopped.0 prepared fit is stopped.1;
   all_sent = stopped.2;
 })
+
+-- ---- the file's refusal
+
+pub gives_fault : (fault : ElfFault) (read : Result Image ElfFault) → Gives (Err fault) read → (fault ≡ elf_faults.Memory → ⊥) → read ≡ Err fault
+gives_fault elf_faults.Short read gives apart = gives
+gives_fault elf_faults.NotElf read gives apart = gives
+gives_fault elf_faults.NotRiscv read gives apart = gives
+gives_fault elf_faults.Kind read gives apart = gives
+gives_fault elf_faults.FloatAbi read gives apart = gives
+gives_fault elf_faults.Embedded read gives apart = gives
+gives_fault (elf_faults.HeaderSize size) read gives apart = gives
+gives_fault elf_faults.NotYet read gives apart = gives
+gives_fault (elf_faults.BadSegment index) read gives apart = gives
+gives_fault elf_faults.Entry read gives apart = gives
+gives_fault elf_faults.Memory read gives apart = absurd (apart refl)
+
+-- ---- the line of a fault
+
+-- what stands of a fault where there was no memory for its line
+forgets : {D : Type 0} (held : D → Option (List ℕ)) (writes : D → ℕ) (tree : Option (List Entry)) (reads_before reads_after : ℕ) (words : List (List ℕ)) (before : List D) (cause : Cause) (journal : History) (after : List D) → IsCaused held writes tree reads_before reads_after words before cause journal after → (Untouched before journal after ⊎ Wants held tree words before journal after) ⊎ ((device : ℕ) × StoppedBy held writes device tree words before journal after)
+forgets held writes tree reads_before reads_after words before (causes.Usage word) journal after caused =
+    inl (inl caused.1)
+forgets held writes tree reads_before reads_after words before (causes.NoProgram program) journal after caused =
+    inl (inl caused.1)
+forgets held writes tree reads_before reads_after words before (causes.Elf fault) journal after caused =
+    inl (inl caused.1)
+forgets held writes tree reads_before reads_after words before (causes.PagesFull wanted) journal after caused =
+    inl (inl caused.1)
+forgets held writes tree reads_before reads_after words before (causes.ReadFault part) journal after caused =
+    inl (inl caused.1)
+forgets held writes tree reads_before reads_after words before (causes.WriteFault parts.Folder) journal after caused =
+    absurd caused
+forgets held writes tree reads_before reads_after words before (causes.WriteFault (parts.Device device)) journal after caused =
+    inr (device, caused)
+forgets held writes tree reads_before reads_after words before (causes.WriteFault parts.Notes) journal after caused =
+    absurd caused
+forgets held writes tree reads_before reads_after words before causes.Memory journal after caused = inl caused
+
+-- each fault but want of memory has a line
+abbrev HasLine : Cause → Type 0
+HasLine causes.Memory = ⊥
+HasLine cause = Unit {0}
+
+-- a fault whose line was tried
+keeps : {D K : Type 0} (held : D → Option (List ℕ)) (writes : D → ℕ) (told : K → Option (List ℕ)) (note_writes : K → ℕ) (tree : Option (List Entry)) (reads_before reads_after : ℕ) (words : List (List ℕ)) (before : List D) (notes_before notes_after : K) (cause : Cause) (journal : History) (after : List D) → IsCaused held writes tree reads_before reads_after words before cause journal after → HasLine cause → Tries told note_writes (cause_line cause) notes_before notes_after → Faults held writes told note_writes tree reads_before reads_after words before notes_before notes_after cause journal after
+keeps held writes told note_writes tree reads_before reads_after words before notes_before notes_after (causes.Usage word) journal after caused apart tries =
+    (caused, tries)
+keeps held writes told note_writes tree reads_before reads_after words before notes_before notes_after (causes.NoProgram program) journal after caused apart tries =
+    (caused, tries)
+keeps held writes told note_writes tree reads_before reads_after words before notes_before notes_after (causes.Elf fault) journal after caused apart tries =
+    (caused, tries)
+keeps held writes told note_writes tree reads_before reads_after words before notes_before notes_after (causes.PagesFull wanted) journal after caused apart tries =
+    (caused, tries)
+keeps held writes told note_writes tree reads_before reads_after words before notes_before notes_after (causes.ReadFault part) journal after caused apart tries =
+    (caused, tries)
+keeps held writes told note_writes tree reads_before reads_after words before notes_before notes_after (causes.WriteFault parts.Folder) journal after caused apart tries =
+    absurd caused
+keeps held writes told note_writes tree reads_before reads_after words before notes_before notes_after (causes.WriteFault (parts.Device device)) journal after caused apart tries =
+    (caused, tries)
+keeps held writes told note_writes tree reads_before reads_after words before notes_before notes_after (causes.WriteFault parts.Notes) journal after caused apart tries =
+    absurd caused
+keeps held writes told note_writes tree reads_before reads_after words before notes_before notes_after causes.Memory journal after caused apart tries =
+    absurd apart
+
+told_or_forgotten : {D K : Type 0} (held : D → Option (List ℕ)) (writes : D → ℕ) (told : K → Option (List ℕ)) (note_writes : K → ℕ) (tree : Option (List Entry)) (reads_before reads_after : ℕ) (words : List (List ℕ)) (before : List D) (notes_before notes_after : K) (cause answered : Cause) (journal : History) (after : List D) → IsCaused held writes tree reads_before reads_after words before cause journal after → HasLine cause → ((answered ≡ cause) × Tries told note_writes (cause_line cause) notes_before notes_after) ⊎ ((answered ≡ causes.Memory) × (notes_after ≡ notes_before)) → Faults held writes told note_writes tree reads_before reads_after words before notes_before notes_after answered journal after
+told_or_forgotten held writes told note_writes tree reads_before reads_after words before notes_before notes_after cause answered journal after caused apart (inl tried) =
+    subst (λ (a : Cause). Faults held writes told note_writes tree reads_before reads_after words before notes_before notes_after a journal after) (sym tried.0) (keeps held writes told note_writes tree reads_before reads_after words before notes_before notes_after cause journal after caused apart tried.1)
+told_or_forgotten held writes told note_writes tree reads_before reads_after words before notes_before notes_after cause answered journal after caused apart (inr none) =
+    subst (λ (a : Cause). Faults held writes told note_writes tree reads_before reads_after words before notes_before notes_after a journal after) (sym none.0) (forgets held writes tree reads_before reads_after words before cause journal after caused, none.1)
+
+-- the fault of a run is the fault of the program once its line was tried
+pub faults : {D K : Type 0} (held : D → Option (List ℕ)) (writes : D → ℕ) (told : K → Option (List ℕ)) (note_writes : K → ℕ) (tree : Option (List Entry)) (reads_before reads_after : ℕ) (words : List (List ℕ)) (before : List D) (notes_before notes_after : K) (cause answered : Cause) (journal : History) (after : List D) → IsCaused held writes tree reads_before reads_after words before cause journal after → TellsFault told note_writes cause notes_before notes_after answered → Faults held writes told note_writes tree reads_before reads_after words before notes_before notes_after answered journal after
+faults held writes told note_writes tree reads_before reads_after words before notes_before notes_after (causes.Usage word) answered journal after caused tells =
+    told_or_forgotten held writes told note_writes tree reads_before reads_after words before notes_before notes_after (causes.Usage word) answered journal after caused tt tells
+faults held writes told note_writes tree reads_before reads_after words before notes_before notes_after (causes.NoProgram program) answered journal after caused tells =
+    told_or_forgotten held writes told note_writes tree reads_before reads_after words before notes_before notes_after (causes.NoProgram program) answered journal after caused tt tells
+faults held writes told note_writes tree reads_before reads_after words before notes_before notes_after (causes.Elf fault) answered journal after caused tells =
+    told_or_forgotten held writes told note_writes tree reads_before reads_after words before notes_before notes_after (causes.Elf fault) answered journal after caused tt tells
+faults held writes told note_writes tree reads_before reads_after words before notes_before notes_after (causes.PagesFull wanted) answered journal after caused tells =
+    told_or_forgotten held writes told note_writes tree reads_before reads_after words before notes_before notes_after (causes.PagesFull wanted) answered journal after caused tt tells
+faults held writes told note_writes tree reads_before reads_after words before notes_before notes_after (causes.ReadFault part) answered journal after caused tells =
+    told_or_forgotten held writes told note_writes tree reads_before reads_after words before notes_before notes_after (causes.ReadFault part) answered journal after caused tt tells
+faults held writes told note_writes tree reads_before reads_after words before notes_before notes_after (causes.WriteFault part) answered journal after caused tells =
+    told_or_forgotten held writes told note_writes tree reads_before reads_after words before notes_before notes_after (causes.WriteFault part) answered journal after caused tt tells
+faults held writes told note_writes tree reads_before reads_after words before notes_before notes_after causes.Memory answered journal after caused tells =
+    subst (λ (a : Cause). Faults held writes told note_writes tree reads_before reads_after words before notes_before notes_after a journal after) (sym tells.0) (inl caused, tells.1)

@@ -8,3 +8,5 @@ pub mod Solo
 pub mod Loading
 pub mod View
 pub mod Labels
+pub mod Notes
+pub mod Complete

@@ -29,5 +29,6 @@ IsNoProgram program (causes.NoProgram name) = name ≡ program
 IsNoProgram program causes.Memory = Unit {0}
 IsNoProgram program (causes.Usage word) = ⊥
 IsNoProgram program (causes.Elf fault) = ⊥
+IsNoProgram program (causes.PagesFull wanted) = ⊥
 IsNoProgram program (causes.ReadFault part) = ⊥
 IsNoProgram program (causes.WriteFault part) = ⊥

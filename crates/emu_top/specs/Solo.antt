@@ -8,7 +8,9 @@ use Rattle.guest_core.specs.declared.ends.End.{End}
 use Rattle.guest_core.specs.declared.ends.End.TheVariants.{Exit, Killed, Budget}
 use Rattle.guest_core.specs.Machine.{Machine}
 use Rattle.guest_core.specs.Event.{run}
-use Rattle.guest_core.specs.Start.{started}
+use Rattle.guest_core.specs.Start.{started, wanted_pages, most_pages}
+use Rattle.guest_core.specs.declared.starting.StartFault.{StartFault}
+use Rattle.guest_core.specs.declared.starting.StartFault.TheVariants as starts
 use Rattle.linux_model.specs.Process.{ProcessState, begun, seen_outputs, seen_end}
 use Rattle.linux_model.specs.Steps.{follow}
 use Rattle.emu_top.specs.declared.folder.Entry.{Entry}
@@ -21,6 +23,7 @@ use Rattle.emu_top.specs.declared.solo.Halt.TheVariants as halts
 use Rattle.emu_top.specs.Files.{NamesFile, Lists, Reads}
 use Rattle.emu_top.specs.Journal.{History}
 use Rattle.emu_top.specs.Labels.{run_labels}
+use Rattle.emu_top.specs.Notes.{end_line, cause_line, Tries, FailsToTell}
 use Rattle.emu_top.specs.Running.{IsEnd}
 use Rattle.emu_top.specs.Sending.{sent, SentUpTo}
 use Rattle.emu_top.specs.Told.{Rose}
@@ -67,6 +70,7 @@ pub record Prepared (tree : Option (List Entry)) (words : List (List ℕ)) (elf 
 pub record Journeys (tree : Option (List Entry)) (words : List (List ℕ)) (devices : ℕ) (journal : History) (last : Machine) (process : ProcessState) : Type 0 where
   pub elf : Image
   pub prepared : Prepared tree words elf
+  pub pages_fit : wanted_pages elf ≤ most_pages
   pub enabled : run (Some (started elf devices)) journal.events ≡ Some last
   pub within : length journal.events ≤ journal.budget
   pub budget_is : journal.budget ≡ budget
@@ -136,6 +140,8 @@ Unprepared tree reads_before reads_after words (causes.NoProgram program) =
 Unprepared tree reads_before reads_after words (causes.Elf fault) =
     (folder : List ℕ) × (program : List ℕ) × (bytes : List ℕ) × IsSolo words folder program
     × Found tree program bytes × (reading bytes ≡ Err fault) × (fault ≢ elf_faults.Memory)
+Unprepared tree reads_before reads_after words (causes.PagesFull wanted) =
+    (elf : Image) × Prepared tree words elf × (wanted ≡ wanted_pages elf) × (most_pages < wanted)
 Unprepared tree reads_before reads_after words (causes.ReadFault parts.Folder) =
     IsAccepted words × Rose reads_before reads_after
 Unprepared tree reads_before reads_after words (causes.ReadFault (parts.Device device)) = ⊥
@@ -143,7 +149,7 @@ Unprepared tree reads_before reads_after words (causes.ReadFault parts.Notes) = 
 Unprepared tree reads_before reads_after words (causes.WriteFault part) = ⊥
 Unprepared tree reads_before reads_after words causes.Memory = Unit {0}
 
--- each cause of a fault, and what it leaves
+-- each cause of a fault before the notes, and what it leaves
 abbrev pub IsCaused : {D : Type 0} → (D → Option (List ℕ)) → (D → ℕ) → Option (List Entry) → ℕ → ℕ → List (List ℕ) → List D → Cause → History → List D → Type 0
 IsCaused held writes tree reads_before reads_after words before (causes.WriteFault (parts.Device device)) journal after =
     StoppedBy held writes device tree words before journal after
@@ -154,11 +160,30 @@ IsCaused held writes tree reads_before reads_after words before causes.Memory jo
 IsCaused held writes tree reads_before reads_after words before cause journal after =
     Unprepared tree reads_before reads_after words cause × Untouched before journal after
 
+-- What a run that came to an end may still answer, with the sink: its line couldn't be told, or made.
+pub record Unended {D : Type 0} (held : D → Option (List ℕ)) (tree : Option (List Entry)) (words : List (List ℕ)) (before : List D) (line : List ℕ) (journal : History) (after : List D) : Type 0 where
+  pub end : End
+  pub status : ℕ
+  pub finishes : Finishes held tree words before end status journal after
+  pub has_line : end_line end ≡ Some line
+
+-- Each cause of a fault, and what it leaves. A fault's line stands on the notes, or a beginning of it where they
+-- failed. Want of memory leaves the notes as they were: it may come before the start, in a run, at the making of an
+-- end's line or of a device's fault.
+abbrev pub Faults : {D K : Type 0} → (D → Option (List ℕ)) → (D → ℕ) → (K → Option (List ℕ)) → (K → ℕ) → Option (List Entry) → ℕ → ℕ → List (List ℕ) → List D → K → K → Cause → History → List D → Type 0
+Faults held writes told note_writes tree reads_before reads_after words before notes_before notes_after (causes.WriteFault parts.Notes) journal after =
+    (line : List ℕ) × Unended held tree words before line journal after × FailsToTell told note_writes line notes_before notes_after
+Faults held writes told note_writes tree reads_before reads_after words before notes_before notes_after causes.Memory journal after =
+    ((Untouched before journal after ⊎ Wants held tree words before journal after) ⊎ ((device : ℕ) × StoppedBy held writes device tree words before journal after)) × (notes_after ≡ notes_before)
+Faults held writes told note_writes tree reads_before reads_after words before notes_before notes_after cause journal after =
+    IsCaused held writes tree reads_before reads_after words before cause journal after × Tries told note_writes (cause_line cause) notes_before notes_after
+
 -- the status of the program at a fault
 abbrev pub fault_status : Cause → ℕ
 fault_status (causes.Usage word) = 64
 fault_status (causes.NoProgram program) = 66
 fault_status (causes.Elf fault) = 65
+fault_status (causes.PagesFull wanted) = 65
 fault_status (causes.ReadFault part) = 74
 fault_status (causes.WriteFault part) = 74
 fault_status causes.Memory = 70
@@ -167,3 +192,8 @@ fault_status causes.Memory = 70
 abbrev pub halt_cause : Halt → Cause
 halt_cause (halts.Device device) = causes.WriteFault (parts.Device device)
 halt_cause halts.Memory = causes.Memory
+
+-- the cause that a start was refused for
+abbrev pub start_cause : StartFault → Cause
+start_cause (starts.PagesFull wanted) = causes.PagesFull wanted
+start_cause starts.Memory = causes.Memory

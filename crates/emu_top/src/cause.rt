@@ -19,6 +19,8 @@ pub enum Cause {
     NoProgram(Text),
     /// The program is no file that can be loaded.
     Elf(ElfFault),
+    /// The program wants this many pages of 4096 bytes, which are more than 65,536.
+    PagesFull { wanted: u64 },
     /// Reading failed.
     ReadFault(Part),
     /// Writing failed.
@@ -39,6 +41,7 @@ impl Cause {
             Cause::Usage { .. } => 64,
             Cause::NoProgram(_) => 66,
             Cause::Elf(_) => 65,
+            Cause::PagesFull { .. } => 65,
             Cause::ReadFault(_) => 74,
             Cause::WriteFault(_) => 74,
             Cause::Memory => 70,

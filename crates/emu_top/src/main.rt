@@ -10,6 +10,8 @@
 //! its faults, which never fall: a fault is answered only where a count rose. Those in memory tell, those of the
 //! machine don't. A journal is seen as the list of its events.
 //!
+//! An attempt is made without a word, and then told: at most one line is put on the sink (`specs/Notes.antt`).
+//!
 //! # The headline
 //!
 //! `solo_top` carries it: what it answers is what the core gives over the journal's events, from the start that the
@@ -22,10 +24,13 @@ mod cause;
 mod device;
 mod failing;
 mod folder;
+#[cfg(test)]
+mod hostile_tests;
 mod journal;
 mod memory_device;
 mod memory_folder;
 mod memory_sink;
+mod notes;
 mod prepare;
 mod real_folder;
 mod simulation;

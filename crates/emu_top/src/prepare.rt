@@ -23,6 +23,7 @@ pub enum LoadFault {
     Memory,
 }
 
+#[tactic(auto, using(crate::proofs::TopFacts::gives_fault))]
 /// The file that the words name in the folder. Only the program is read.
 pub fn prepare<F: Folder>(alloc: Global, words: &[String], folder: &mut F) -> Result<Elf, Cause>
     ensures ok { IfOk result (λ elf. Prepared (F.tree folder.old) (map string_bytes words.now) (image elf)) }
@@ -42,7 +43,7 @@ pub fn prepare<F: Folder>(alloc: Global, words: &[String], folder: &mut F) -> Re
     match elf_file::read(alloc, &bytes) {
         Ok(elf) => Ok(elf),
         Err(ElfFault::Memory) => Err(Cause::Memory),
-        Err(ElfFault::NotYet) => Err(Cause::Elf(ElfFault::NotYet)),
+        Err(fault) => Err(Cause::Elf(fault)),
     }
 }
 

@@ -19,7 +19,7 @@ use std::test::Fail;
 const EXITS: [u32; 3] = [0x0070_0513, 0x05E0_0893, 0x0000_0073];
 
 /// Writes `hi` and a newline to descriptor 1, and ends with 0.
-const WRITES_HI: [u32; 9] = [
+pub const WRITES_HI: [u32; 9] = [
     0x0001_05B7,
     0x0245_8593,
     0x0010_0513,
@@ -48,7 +48,7 @@ const WRITES_TWICE: [u32; 12] = [
 ];
 
 /// A file whose one segment has these words and bytes at 0x10000, from offset 4096 on.
-fn file_of(alloc: Global, words: &[u32], data: &[u8]) -> Result<Vec<u8>, AllocError> {
+pub fn file_of(alloc: Global, words: &[u32], data: &[u8]) -> Result<Vec<u8>, AllocError> {
     let mut bytes = Vec::new(alloc);
     // 64 bits, little-endian, version 1; type 2, machine 243, version 1; the entry
     bytes.extend_from_slice(&[0x7F, b'E', b'L', b'F', 2, 1, 1, 0, 0, 0, 0, 0, 0, 0, 0, 0])?;
@@ -124,23 +124,24 @@ fn words_of(alloc: Global, words: &[&str]) -> Result<Vec<String>, AllocError> {
     Ok(list)
 }
 
-type Answer = Result<Finished<MemDevice>, TopFault<MemDevice>>;
+pub type Answer = Result<Finished<MemDevice>, TopFault<MemDevice>>;
 
-/// The answer for words, over three devices.
+/// The answer for words, over three devices, and the line on the notes.
 fn answer(
     alloc: Global,
     words: &[&str],
     folder: &mut MemFolder,
     failing_takes: Vec<u64>,
-) -> Result<Answer, AllocError> {
+) -> Result<(Answer, Vec<u8>), AllocError> {
     let words = words_of(alloc, words)?;
     let devices = devices(alloc, failing_takes)?;
     let mut notes = MemSink::new(alloc, Vec::new(alloc));
-    Ok(solo_top(alloc, &words, folder, devices, &mut notes))
+    let answer = solo_top(alloc, &words, folder, devices, &mut notes);
+    Ok((answer, notes.contents().to_vec(alloc)?))
 }
 
 /// The answer for a file that is run.
-fn answer_to(alloc: Global, bytes: Vec<u8>) -> Result<Answer, AllocError> {
+pub fn answer_to(alloc: Global, bytes: Vec<u8>) -> Result<(Answer, Vec<u8>), AllocError> {
     let mut folder = folder(alloc, bytes, Vec::new(alloc), Vec::new(alloc))?;
     answer(alloc, &["solo", ".", "p"], &mut folder, Vec::new(alloc))
 }
@@ -161,11 +162,13 @@ fn steps(journal: &Journal) -> Option<u32> {
 #[test]
 fn exits_with_its_code(rt: HostRuntime) -> Result<(), Fail> {
     let bytes = file_of(rt.alloc(), &EXITS, &[])?;
-    let Ok(finished) = answer_to(rt.alloc(), bytes)? else {
+    let (answer, line) = answer_to(rt.alloc(), bytes)?;
+    let Ok(finished) = answer else {
         return Err("it finishes")?;
     };
     assert!(rt; matches!(finished.end, End::Exit(7)));
     assert_eq!(rt; finished.status, 7);
+    assert_eq!(rt; line.as_slice(), b"".as_slice());
     assert_eq!(rt; steps(&finished.journal), Some(5));
     assert_eq!(rt; finished.journal.count(), 5);
     assert_eq!(rt; finished.journal.budget(), 4194304);
@@ -176,7 +179,7 @@ fn exits_with_its_code(rt: HostRuntime) -> Result<(), Fail> {
 }
 
 /// The number of the signal that ended the process.
-fn killed_by(end: &End) -> Option<u8> {
+pub fn killed_by(end: &End) -> Option<u8> {
     match end {
         End::Killed(signal) => Some(signal.number()),
         _ => None,
@@ -186,11 +189,13 @@ fn killed_by(end: &End) -> Option<u8> {
 #[test]
 fn is_killed_at_an_illegal_instruction(rt: HostRuntime) -> Result<(), Fail> {
     let bytes = file_of(rt.alloc(), &[0, 0x05E0_0893, 0x0000_0073], &[])?;
-    let Ok(finished) = answer_to(rt.alloc(), bytes)? else {
+    let (answer, line) = answer_to(rt.alloc(), bytes)?;
+    let Ok(finished) = answer else {
         return Err("it finishes")?;
     };
     assert_eq!(rt; killed_by(&finished.end), Some(4));
     assert_eq!(rt; finished.status, 132);
+    assert_eq!(rt; line.as_slice(), b"rvuser: killed by signal 4\n".as_slice());
     assert_eq!(rt; steps(&finished.journal), Some(3));
     Ok(())
 }
@@ -198,11 +203,13 @@ fn is_killed_at_an_illegal_instruction(rt: HostRuntime) -> Result<(), Fail> {
 #[test]
 fn writes_to_its_device(rt: HostRuntime) -> Result<(), Fail> {
     let bytes = file_of(rt.alloc(), &WRITES_HI, b"hi\n")?;
-    let Ok(finished) = answer_to(rt.alloc(), bytes)? else {
+    let (answer, line) = answer_to(rt.alloc(), bytes)?;
+    let Ok(finished) = answer else {
         return Err("it finishes")?;
     };
     assert!(rt; matches!(finished.end, End::Exit(0)));
     assert_eq!(rt; finished.status, 0);
+    assert_eq!(rt; line.as_slice(), b"".as_slice());
     assert_eq!(rt; steps(&finished.journal), Some(14));
     assert_eq!(rt; contents(&finished.devices, 0), [].as_slice());
     assert_eq!(rt; contents(&finished.devices, 1), b"hi\n".as_slice());
@@ -220,11 +227,16 @@ fn a_second_program_header_is_refused(rt: HostRuntime) -> Result<(), Fail> {
     for place in 64..120 {
         bytes[place + 56] = bytes[place];
     }
-    let Err(fault) = answer_to(rt.alloc(), bytes)? else {
+    let (answer, line) = answer_to(rt.alloc(), bytes)?;
+    let Err(fault) = answer else {
         return Err("it is refused")?;
     };
     assert!(rt; matches!(fault.cause, Cause::Elf(ElfFault::NotYet)));
     assert_eq!(rt; fault.cause.status(), 65);
+    assert_eq!(rt;
+        line.as_slice(),
+        b"rvuser: not runnable: NotYet\n".as_slice()
+    );
     assert_eq!(rt; fault.journal.count(), 0);
     Ok(())
 }
@@ -235,11 +247,16 @@ fn a_device_fails_at_its_second_take(rt: HostRuntime) -> Result<(), Fail> {
     let bytes = file_of(alloc, &WRITES_TWICE, b"abcd")?;
     let mut folder = folder(alloc, bytes, Vec::new(alloc), Vec::new(alloc))?;
     let takes = vec![in alloc; 1]?;
-    let Err(fault) = answer(alloc, &["solo", ".", "p"], &mut folder, takes)? else {
+    let (answer, line) = answer(alloc, &["solo", ".", "p"], &mut folder, takes)?;
+    let Err(fault) = answer else {
         return Err("the device fails")?;
     };
     assert!(rt; matches!(fault.cause, Cause::WriteFault(Part::Device(1))));
     assert_eq!(rt; fault.cause.status(), 74);
+    assert_eq!(rt;
+        line.as_slice(),
+        b"rvuser: write failed: device 1\n".as_slice()
+    );
     // the journal ends with the event of the second write
     assert_eq!(rt; steps(&fault.journal), Some(14));
     assert_eq!(rt; contents(&fault.devices, 1), b"abc".as_slice());
@@ -253,11 +270,16 @@ fn a_folder_that_fails(rt: HostRuntime) -> Result<(), Fail> {
     for (list, read) in [(0, 9), (9, 0)] {
         let bytes = file_of(alloc, &EXITS, &[])?;
         let mut folder = folder(alloc, bytes, vec![in alloc; list]?, vec![in alloc; read]?)?;
-        let Err(fault) = answer(alloc, &["solo", ".", "p"], &mut folder, Vec::new(alloc))? else {
+        let (answer, line) = answer(alloc, &["solo", ".", "p"], &mut folder, Vec::new(alloc))?;
+        let Err(fault) = answer else {
             return Err("the folder fails")?;
         };
         assert!(rt; matches!(fault.cause, Cause::ReadFault(Part::Folder)));
         assert_eq!(rt; fault.cause.status(), 74);
+        assert_eq!(rt;
+            line.as_slice(),
+            b"rvuser: read failed: folder\n".as_slice()
+        );
         assert_eq!(rt; fault.journal.count(), 0);
         assert_eq!(rt; fault.devices.len(), 3);
     }
@@ -270,7 +292,8 @@ fn a_program_that_is_no_file_of_the_folder(rt: HostRuntime) -> Result<(), Fail> 
     for name in ["none", "d", "d/p", "rv-p"] {
         let bytes = file_of(alloc, &EXITS, &[])?;
         let mut folder = folder(alloc, bytes, Vec::new(alloc), Vec::new(alloc))?;
-        let Err(fault) = answer(alloc, &["solo", ".", name], &mut folder, Vec::new(alloc))? else {
+        let (answer, line) = answer(alloc, &["solo", ".", name], &mut folder, Vec::new(alloc))?;
+        let Err(fault) = answer else {
             return Err("there is no program")?;
         };
         match &fault.cause {
@@ -278,6 +301,8 @@ fn a_program_that_is_no_file_of_the_folder(rt: HostRuntime) -> Result<(), Fail> 
             _ => assert!(rt; false),
         }
         assert_eq!(rt; fault.cause.status(), 66);
+        let wanted = format!(in alloc; "rvuser: no file {name}\n")?;
+        assert_eq!(rt; line.as_slice(), wanted.as_str().as_bytes());
     }
     Ok(())
 }
@@ -308,7 +333,8 @@ fn the_first_wrong_word(rt: HostRuntime) -> Result<(), Fail> {
             Vec::new(rt.alloc()),
             Vec::new(rt.alloc()),
         )?;
-        let Err(fault) = answer(rt.alloc(), words, &mut folder, Vec::new(rt.alloc()))? else {
+        let (answer, line) = answer(rt.alloc(), words, &mut folder, Vec::new(rt.alloc()))?;
+        let Err(fault) = answer else {
             return Err("the words are wrong")?;
         };
         match fault.cause {
@@ -316,6 +342,8 @@ fn the_first_wrong_word(rt: HostRuntime) -> Result<(), Fail> {
             _ => assert!(rt; false),
         }
         assert_eq!(rt; fault.cause.status(), 64);
+        let wanted = format!(in rt.alloc(); "rvuser: usage: word {index}\n")?;
+        assert_eq!(rt; line.as_slice(), wanted.as_str().as_bytes());
     }
     Ok(())
 }
@@ -349,7 +377,8 @@ fn answers_of_calls(rt: HostRuntime) -> Result<(), Fail> {
     for (number, descriptor, address, length, status) in table {
         let words = calls(number, descriptor, address, length);
         let bytes = file_of(rt.alloc(), &words, &[])?;
-        let Ok(finished) = answer_to(rt.alloc(), bytes)? else {
+        let (answer, _) = answer_to(rt.alloc(), bytes)?;
+        let Ok(finished) = answer else {
             return Err("it finishes")?;
         };
         assert_eq!(rt;
@@ -364,11 +393,16 @@ fn answers_of_calls(rt: HostRuntime) -> Result<(), Fail> {
 #[test]
 fn is_killed_behind_its_code(rt: HostRuntime) -> Result<(), Fail> {
     let bytes = file_of(rt.alloc(), &[0x0070_0513], &[])?;
-    let Ok(finished) = answer_to(rt.alloc(), bytes)? else {
+    let (answer, line) = answer_to(rt.alloc(), bytes)?;
+    let Ok(finished) = answer else {
         return Err("it finishes")?;
     };
     assert_eq!(rt; killed_by(&finished.end), Some(11));
     assert_eq!(rt; finished.status, 139);
+    assert_eq!(rt;
+        line.as_slice(),
+        b"rvuser: killed by signal 11\n".as_slice()
+    );
     assert_eq!(rt; steps(&finished.journal), Some(4));
     Ok(())
 }
@@ -377,12 +411,62 @@ fn is_killed_behind_its_code(rt: HostRuntime) -> Result<(), Fail> {
 fn the_budget_is_spent(rt: HostRuntime) -> Result<(), Fail> {
     let words = vec![in rt.alloc(); 0x0000_0013; 4194304]?;
     let bytes = file_of(rt.alloc(), &words, &[])?;
-    let Ok(finished) = answer_to(rt.alloc(), bytes)? else {
+    let (answer, line) = answer_to(rt.alloc(), bytes)?;
+    let Ok(finished) = answer else {
         return Err("it finishes")?;
     };
     assert!(rt; matches!(finished.end, End::Budget));
     assert_eq!(rt; finished.status, 75);
+    assert_eq!(rt;
+        line.as_slice(),
+        b"rvuser: budget of 4194304 events spent\n".as_slice()
+    );
     assert_eq!(rt; steps(&finished.journal), Some(4194304));
+    Ok(())
+}
+
+/// The answer for words over a sink that fails at its first line, and what the sink holds.
+fn answer_untold(
+    alloc: Global,
+    program: &str,
+    bytes: Vec<u8>,
+) -> Result<(Answer, Vec<u8>), AllocError> {
+    let words = words_of(alloc, &["solo", ".", program])?;
+    let devices = devices(alloc, Vec::new(alloc))?;
+    let mut folder = folder(alloc, bytes, Vec::new(alloc), Vec::new(alloc))?;
+    let mut notes = MemSink::new(alloc, vec![in alloc; 0]?);
+    let answer = solo_top(alloc, &words, &mut folder, devices, &mut notes);
+    Ok((answer, notes.contents().to_vec(alloc)?))
+}
+
+#[test]
+fn an_end_that_cannot_be_told_is_a_fault_of_the_notes(rt: HostRuntime) -> Result<(), Fail> {
+    let bytes = file_of(rt.alloc(), &[0], &[])?;
+    let (answer, line) = answer_untold(rt.alloc(), "p", bytes)?;
+    let Err(fault) = answer else {
+        return Err("the sink fails")?;
+    };
+    assert!(rt; matches!(fault.cause, Cause::WriteFault(Part::Notes)));
+    assert_eq!(rt; fault.cause.status(), 74);
+    assert_eq!(rt; steps(&fault.journal), Some(3));
+    assert!(rt; b"rvuser: killed by signal 4\n".starts_with(line.as_slice()));
+    // an end without a line doesn't meet the sink
+    let bytes = file_of(rt.alloc(), &EXITS, &[])?;
+    let (answer, _) = answer_untold(rt.alloc(), "p", bytes)?;
+    assert!(rt; answer.is_ok());
+    Ok(())
+}
+
+#[test]
+fn the_first_fault_stays_where_it_cannot_be_told(rt: HostRuntime) -> Result<(), Fail> {
+    let bytes = file_of(rt.alloc(), &EXITS, &[])?;
+    let (answer, line) = answer_untold(rt.alloc(), "none", bytes)?;
+    let Err(fault) = answer else {
+        return Err("there is no program")?;
+    };
+    assert!(rt; matches!(fault.cause, Cause::NoProgram(_)));
+    assert_eq!(rt; fault.cause.status(), 66);
+    assert!(rt; b"rvuser: no file none\n".starts_with(line.as_slice()));
     Ok(())
 }
 

@@ -3,16 +3,20 @@
 ghost use Rattle.std.specs.Prelude.{◌≡◌, ◌≤◌, ◌<◌, [], map, length, Ok, Err, IfOk, IfErr};
 ghost use Rattle.std.specs.String.{string_bytes};
 ghost use Rattle.emu_top.specs.Sending.{sent};
-ghost use Rattle.emu_top.specs.Solo.{CoreFinishes, CoreStops, Finishes, IsCaused, halt_cause, status_of as end_status};
+ghost use Rattle.emu_top.specs.Complete.{IsRunnable, NoneRose};
+ghost use Rattle.emu_top.specs.Notes.{end_line, TellsEnd, TellsFault, EndsUntold};
+ghost use Rattle.emu_top.specs.Solo.{CoreFinishes, CoreStops, Finishes, IsCaused, Faults, halt_cause, start_cause, status_of as end_status};
+ghost use Rattle.emu_top.specs.declared.cause.Cause.TheVariants.{Memory as memory};
 
 use crate::cause::{Cause, Part};
 use crate::device::Device;
 use crate::folder::Folder;
 use crate::journal::Journal;
+use crate::notes::{line_of_cause, line_of_end};
 use crate::prepare::prepare;
 use crate::sink::Sink;
 use crate::solo::{Halt, Run, run_to_end};
-use guest_core::{Core, End, start};
+use guest_core::{Core, End, StartFault, start};
 use std::alloc::Global;
 
 /// The most events of a run.
@@ -44,10 +48,12 @@ struct Stopped<D: Device> {
 }
 
 /// Runs the program that the words name: `solo FOLDER PROGRAM`. The folder is listed and the program alone is read;
-/// nothing is written to the folder or on `notes`. The devices are those of the guest's descriptors from 0 on.
+/// nothing is written to the folder. The devices are those of the guest's descriptors from 0 on. One line is written on
+/// the notes for each end but that of a program that ended by itself, and for each fault but want of memory and a
+/// failure of the notes.
 ///
 /// It costs by the listing, by the size of the program's segment and by the number of its steps, at most 4194304.
-#[tactic(auto, using(crate::proofs::TopFacts::finishes, crate::proofs::TopFacts::is_caused))]
+#[tactic(auto, using(crate::proofs::TopFacts::faults, crate::proofs::CompleteFacts::complete, crate::proofs::CompleteFacts::complete_told))]
 pub fn solo_top<F: Folder, K: Sink, D: Device>(
     alloc: Global,
     words: &[String],
@@ -58,12 +64,107 @@ pub fn solo_top<F: Folder, K: Sink, D: Device>(
     requires { length devices.items ≤ 8 }
     // The journal's events are a run from the start that the words and the file give, and their labels a run of the
     // process machine. The end and the status are by its last state, and each device holds what it held, and what is
-    // seen of the run behind that.
+    // seen of the run behind that. The end's line stands on the notes.
     ensures finished { IfOk result (λ f. Finishes D.held (F.tree folder.old) (map string_bytes words.now) devices.items f.end f.status f.journal f.devices.items) }
-    // Each fault comes only where its cause holds, and carries what was done.
+    ensures told { IfOk result (λ f. TellsEnd K.held (end_line f.end) notes.old notes.new) }
+    // Each fault comes only where its cause holds, and carries what was done. Its line stands on the notes.
+    ensures caused { IfErr result (λ f. Faults D.held D.failed_writes K.held K.failed_writes (F.tree folder.old) (F.failed_reads folder.old) (F.failed_reads folder.new) (map string_bytes words.now) devices.items notes.old notes.new f.cause f.journal f.devices.items) }
+    // Where the words name a file of the folder that starts, and no count rose, only want of memory is left.
+    ensures complete { IfErr result (λ f. IsRunnable (F.tree folder.old) (map string_bytes words.now) → NoneRose D.failed_writes K.failed_writes (F.failed_reads folder.old) (F.failed_reads folder.new) devices.items f.devices.items notes.old notes.new → f.cause ≡ memory) }
+    ensures folder { F.tree folder.new ≡ F.tree folder.old }
+{
+    match attempt(alloc, words, folder, devices) {
+        Ok(finished) => tell_end(alloc, finished, notes),
+        Err(fault) => Err(tell_fault(alloc, fault, notes)),
+    }
+}
+
+/// Tells the line of an end, where it has one.
+fn tell_end<K: Sink, D: Device>(
+    alloc: Global,
+    finished: Finished<D>,
+    notes: &mut K,
+) -> Result<Finished<D>, TopFault<D>>
+    ensures told { IfOk result (λ f. (f ≡ finished) × TellsEnd K.held (end_line f.end) notes.old notes.new) }
+    ensures failed { IfErr result (λ f. EndsUntold K.held K.failed_writes finished.end notes.old notes.new f.cause × (f.journal ≡ finished.journal) × (f.devices ≡ finished.devices)) }
+{
+    match line_of_end(alloc, &finished.end) {
+        Ok(None) => Ok(finished),
+        Ok(Some(line)) => match notes.put(line.as_str().as_bytes()) {
+            Ok(()) => Ok(finished),
+            Err(_) => Err(untold(finished, Cause::WriteFault(Part::Notes))),
+        },
+        Err(_) => Err(untold(finished, Cause::Memory)),
+    }
+}
+
+/// The fault of an end that couldn't be told.
+fn untold<D: Device>(finished: Finished<D>, cause: Cause) -> TopFault<D>
+    ensures cause { result.cause ≡ cause }
+    ensures journal { result.journal ≡ finished.journal }
+    ensures devices { result.devices ≡ finished.devices }
+{
+    let Finished {
+        end: _,
+        status: _,
+        journal,
+        devices,
+    } = finished;
+    TopFault {
+        cause,
+        journal,
+        devices,
+    }
+}
+
+/// Tells the line of a fault, where it has one. The fault stays what it was where the sink fails.
+fn tell_fault<K: Sink, D: Device>(alloc: Global, fault: TopFault<D>, notes: &mut K) -> TopFault<D>
+    ensures told { TellsFault K.held K.failed_writes fault.cause notes.old notes.new result.cause }
+    ensures journal { result.journal ≡ fault.journal }
+    ensures devices { result.devices ≡ fault.devices }
+{
+    if let Cause::Memory = fault.cause {
+        return fault;
+    }
+    match line_of_cause(alloc, &fault.cause) {
+        Ok(line) => {
+            let _ = notes.put(line.as_str().as_bytes());
+            fault
+        }
+        Err(_) => forgotten(fault),
+    }
+}
+
+/// The fault of a fault whose line couldn't be made.
+fn forgotten<D: Device>(fault: TopFault<D>) -> TopFault<D>
+    ensures cause { result.cause ≡ memory }
+    ensures journal { result.journal ≡ fault.journal }
+    ensures devices { result.devices ≡ fault.devices }
+{
+    let TopFault {
+        cause: _,
+        journal,
+        devices,
+    } = fault;
+    TopFault {
+        cause: Cause::Memory,
+        journal,
+        devices,
+    }
+}
+
+/// Runs the program that the words name, without a line on the notes.
+#[tactic(auto, using(crate::proofs::TopFacts::finishes, crate::proofs::TopFacts::is_caused))]
+fn attempt<F: Folder, D: Device>(
+    alloc: Global,
+    words: &[String],
+    folder: &mut F,
+    devices: Vec<D>,
+) -> Result<Finished<D>, TopFault<D>>
+    requires { length devices.items ≤ 8 }
+    ensures finished { IfOk result (λ f. Finishes D.held (F.tree folder.old) (map string_bytes words.now) devices.items f.end f.status f.journal f.devices.items) }
     ensures caused { IfErr result (λ f. IsCaused D.held D.failed_writes (F.tree folder.old) (F.failed_reads folder.old) (F.failed_reads folder.new) (map string_bytes words.now) devices.items f.cause f.journal f.devices.items) }
     ensures folder { F.tree folder.new ≡ F.tree folder.old }
-    ensures notes { notes.new ≡ notes.old }
 {
     let elf = match prepare(alloc, words, folder) {
         Ok(elf) => elf,
@@ -71,11 +172,21 @@ pub fn solo_top<F: Folder, K: Sink, D: Device>(
     };
     let core = match start(alloc, &elf, devices.as_slice().len()) {
         Ok(core) => core,
-        Err(_) => return Err(untouched(alloc, Cause::Memory, devices)),
+        Err(fault) => return Err(untouched(alloc, cause_of(fault), devices)),
     };
     match execute(alloc, core, devices) {
         Ok(finished) => Ok(finished),
         Err(stopped) => Err(fault_of(stopped)),
+    }
+}
+
+/// The cause of a start that was refused.
+fn cause_of(fault: StartFault) -> Cause
+    ensures { result ≡ start_cause fault }
+{
+    match fault {
+        StartFault::PagesFull { wanted } => Cause::PagesFull { wanted },
+        StartFault::Memory => Cause::Memory,
     }
 }
 

@@ -1,7 +1,6 @@
 -- A thread's step: which row fits its state, and what each row does.
 -- The project's own, after the safe system calls of QEMU's linux-user.
-use Rattle.std.specs.Prelude.{◌+◌, ◌-◌, ◌^◌, min, ◌==◌, true, false, not, if◌then◌else◌, ℤ, [], ◌∷◌, ◌++◌, filter, Option, Some, None}
-use Rattle.guest_core.specs.declared.ends.End.TheVariants.{Killed}
+use Rattle.std.specs.Prelude.{◌==◌, true, false, not, if◌then◌else◌, ℤ, [], ◌∷◌, ◌++◌, filter, Option, Some, None}
 use Rattle.guest_core.specs.declared.places.Place.{Place}
 use Rattle.guest_core.specs.declared.places.Place.TheVariants.{Loop, Start, Window, Done}
 use Rattle.guest_core.specs.declared.queue.Instance.{Instance}

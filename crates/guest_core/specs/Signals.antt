@@ -1,7 +1,7 @@
 -- Sending and taking a signal, over what the system has.
 -- Source: signal(7). All signals today are forced, and those of faults: none is blocked or ignored, and the default
 -- action of each is to end the process.
-use Rattle.std.specs.Prelude.{ℕ, ◌+◌, ◌==◌, not, [], ◌∷◌, ◌++◌, filter}
+use Rattle.std.specs.Prelude.{◌+◌, ◌==◌, not, [], ◌∷◌, ◌++◌, filter}
 use Rattle.guest_core.specs.declared.ends.End.{End}
 use Rattle.guest_core.specs.declared.ends.End.TheVariants.{Killed}
 use Rattle.guest_core.specs.declared.queue.Fault.{Fault}

@@ -1,6 +1,6 @@
-ghost use Rattle.std.specs.Prelude.{◌≡◌, ◌≤◌, IfOk};
+ghost use Rattle.std.specs.Prelude.{◌≡◌, ◌≤◌, ◌+◌, IfOk};
 ghost use Rattle.elf_file.specs.Reading.{image, segment_image};
-ghost use Rattle.guest_core.specs.Start.{started, loaded};
+ghost use Rattle.guest_core.specs.Start.{started, loaded, page_count, Starts};
 ghost use Rattle.guest_core.specs.State.{machine};
 
 use crate::machine::Core;
@@ -13,9 +13,17 @@ use crate::state::{Host, State};
 use elf_file::{Bytes, Elf, Segment};
 use std::alloc::{AllocError, Global};
 
+/// The bytes of a page.
+const PAGE: u64 = 4096;
+
+/// The most pages that a program has.
+const MOST_PAGES: u64 = 65536;
+
 /// Why no start was made.
 #[derive(Clone, Copy, Debug, PartialEq, Eq)]
 pub enum StartFault {
+    /// The file wants this many pages, which are more than 65,536.
+    PagesFull { wanted: u64 },
     /// Want of memory.
     Memory,
 }
@@ -26,8 +34,12 @@ pub enum StartFault {
 #[tactic(auto, using(crate::proofs::StartFacts::start_keeps), unfolding(crate::specs::Start::started))]
 pub fn start(alloc: Global, elf: &Elf, devices: usize) -> Result<Core, StartFault>
     requires { devices ≤ 8 }
-    ensures { IfOk result (λ core. core ≡ started (image elf.now) devices) }
+    ensures { Starts (image elf.now) devices result }
 {
+    let wanted = pages(elf.segment.at, elf.segment.size);
+    if MOST_PAGES < wanted {
+        return Err(StartFault::PagesFull { wanted });
+    }
     match state_of(alloc, elf, devices) {
         Ok(state) => Ok(Core::from_state(state)),
         Err(_) => Err(StartFault::Memory),
@@ -55,6 +67,17 @@ fn state_of(alloc: Global, elf: &Elf, devices: usize) -> Result<State, AllocErro
         flag: false,
         end: None,
     })
+}
+
+/// How many pages have a byte of the range.
+fn pages(at: u64, size: u64) -> u64
+    requires { at + size ≤ 0x3F00000000 }
+    ensures { result ≡ page_count at size }
+{
+    if size == 0 {
+        return 0;
+    }
+    (at + size - 1) / PAGE - at / PAGE + 1
 }
 
 /// The segment's bytes from the file, and zeros behind them.

@@ -1,0 +1,33 @@
+-- When a run must come to an end, but for want of memory.
+-- The project's own.
+use Rattle.std.specs.Prelude.{◌≡◌, ◌≤◌, ℕ, List, map, Option, Some, None, Ok, slice_index}
+use Rattle.elf_file.specs.Reading.{Image, reading}
+use Rattle.guest_core.specs.Start.{wanted_pages, most_pages}
+use Rattle.emu_top.specs.declared.folder.Entry.{Entry}
+use Rattle.emu_top.specs.Files.{listed, IsFileOf}
+use Rattle.emu_top.specs.Solo.{HasProgram}
+use Rattle.emu_top.specs.Told.{Rose}
+use Rattle.emu_top.specs.Words.{IsSolo}
+
+-- the bytes are those of a file that starts
+abbrev pub Starts : List ℕ → Type 0
+Starts bytes = (elf : Image) × (reading bytes ≡ Ok elf) × (wanted_pages elf ≤ most_pages)
+
+-- the words name a file of these entries that starts
+pub record Names (entries : List Entry) (words : List (List ℕ)) : Type 0 where
+  pub folder : List ℕ
+  pub program : List ℕ
+  pub solo : IsSolo words folder program
+  pub has : HasProgram (map listed entries) program
+  pub starts : (bytes : List ℕ) → IsFileOf entries program bytes → Starts bytes
+
+-- the folder tells its entries, and the words name a file of them that starts
+abbrev pub IsRunnable : Option (List Entry) → List (List ℕ) → Type 0
+IsRunnable None words = ⊥
+IsRunnable (Some entries) words = Names entries words
+
+-- no count of a fault rose: of reads, of any device's writes, of the notes' writes
+pub record NoneRose {D K : Type 0} (writes : D → ℕ) (note_writes : K → ℕ) (reads_before reads_after : ℕ) (before after : List D) (notes_before notes_after : K) : Type 0 where
+  pub reads : Rose reads_before reads_after → ⊥
+  pub devices : (device : ℕ) → Rose (slice_index (map writes before) device) (slice_index (map writes after) device) → ⊥
+  pub notes : Rose (note_writes notes_before) (note_writes notes_after) → ⊥

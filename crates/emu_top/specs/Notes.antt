@@ -1,0 +1,78 @@
+-- The lines that the program writes on its notes. Each begins with its name and ends with a newline.
+-- The project's own.
+use Rattle.std.specs.Prelude.{◌≡◌, ◌⊎◌, ℕ, List, [], ◌∷◌, ◌++◌, Option, Some, None, codes, decimal}
+use Rattle.elf_file.specs.declared.fault.ElfFault.{ElfFault}
+use Rattle.elf_file.specs.declared.fault.ElfFault.TheVariants as elf
+use Rattle.guest_core.specs.declared.ends.End.{End}
+use Rattle.guest_core.specs.declared.ends.End.TheVariants.{Exit, Killed, Budget}
+use Rattle.emu_top.specs.declared.cause.Cause.{Cause}
+use Rattle.emu_top.specs.declared.cause.Cause.TheVariants as causes
+use Rattle.emu_top.specs.declared.cause.Part.{Part}
+use Rattle.emu_top.specs.declared.cause.Part.TheVariants as parts
+use Rattle.emu_top.specs.Told.{more, Rose, HoldsBeginning}
+
+abbrev pub newline : List ℕ
+newline = 10 ∷ []
+
+-- the line of an end, none where the program ended by itself
+abbrev pub end_line : End → Option (List ℕ)
+end_line (Exit code) = None
+end_line (Killed signal) = Some (codes "rvuser: killed by signal " ++ (decimal signal ++ newline))
+end_line Budget = Some (codes "rvuser: budget of 4194304 events spent\n")
+
+abbrev pub part_text : Part → List ℕ
+part_text parts.Folder = codes "folder"
+part_text (parts.Device device) = codes "device " ++ decimal device
+part_text parts.Notes = codes "notes"
+
+-- the variant's name, and its numbers behind a blank
+abbrev pub fault_text : ElfFault → List ℕ
+fault_text elf.Short = codes "Short"
+fault_text elf.NotElf = codes "NotElf"
+fault_text elf.NotRiscv = codes "NotRiscv"
+fault_text elf.Kind = codes "Kind"
+fault_text elf.FloatAbi = codes "FloatAbi"
+fault_text elf.Embedded = codes "Embedded"
+fault_text (elf.HeaderSize size) = codes "HeaderSize " ++ decimal size
+fault_text elf.NotYet = codes "NotYet"
+fault_text (elf.BadSegment index) = codes "BadSegment " ++ decimal index
+fault_text elf.Entry = codes "Entry"
+fault_text elf.Memory = codes "Memory"
+
+-- the line of a fault. Want of memory and a failure of the notes have none
+abbrev pub cause_line : Cause → List ℕ
+cause_line (causes.Usage word) = codes "rvuser: usage: word " ++ (decimal word ++ newline)
+cause_line (causes.NoProgram program) = codes "rvuser: no file " ++ (program ++ newline)
+cause_line (causes.Elf fault) = codes "rvuser: not runnable: " ++ (fault_text fault ++ newline)
+cause_line (causes.PagesFull wanted) = codes "rvuser: " ++ (decimal wanted ++ codes " pages wanted\n")
+cause_line (causes.ReadFault part) = codes "rvuser: read failed: " ++ (part_text part ++ newline)
+cause_line (causes.WriteFault part) = codes "rvuser: write failed: " ++ (part_text part ++ newline)
+cause_line causes.Memory = []
+
+-- the sink failed at the line, and holds a beginning of it
+pub record FailsToTell {K : Type 0} (told : K → Option (List ℕ)) (writes : K → ℕ) (line : List ℕ) (before after : K) : Type 0 where
+  pub beginning : HoldsBeginning (told before) line (told after)
+  pub rose : Rose (writes before) (writes after)
+
+-- the end's line was told, where it has one
+abbrev pub TellsEnd : {K : Type 0} → (K → Option (List ℕ)) → Option (List ℕ) → K → K → Type 0
+TellsEnd told None before after = after ≡ before
+TellsEnd told (Some line) before after = told after ≡ more (told before) line
+
+-- the line was told, or the sink failed at it and holds a beginning of it
+abbrev pub Tries : {K : Type 0} → (K → Option (List ℕ)) → (K → ℕ) → List ℕ → K → K → Type 0
+Tries told writes line before after = (told after ≡ more (told before) line) ⊎ FailsToTell told writes line before after
+
+-- Of a fault with a line, the line was tried. Where there was no memory for the line, the fault is want of memory, and
+-- the sink stays as it was.
+abbrev pub TellsFault : {K : Type 0} → (K → Option (List ℕ)) → (K → ℕ) → Cause → K → K → Cause → Type 0
+TellsFault told writes causes.Memory before after answered = (answered ≡ causes.Memory) × (after ≡ before)
+TellsFault told writes cause before after answered =
+    ((answered ≡ cause) × Tries told writes (cause_line cause) before after) ⊎ ((answered ≡ causes.Memory) × (after ≡ before))
+
+-- Why an end wasn't told: the sink failed at its line, or there was no memory for it.
+abbrev pub EndsUntold : {K : Type 0} → (K → Option (List ℕ)) → (K → ℕ) → End → K → K → Cause → Type 0
+EndsUntold told writes end before after (causes.WriteFault parts.Notes) =
+    (line : List ℕ) × (end_line end ≡ Some line) × FailsToTell told writes line before after
+EndsUntold told writes end before after causes.Memory = after ≡ before
+EndsUntold told writes end before after cause = ⊥

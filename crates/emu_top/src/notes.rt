@@ -1,0 +1,89 @@
+//! The lines on the notes.
+
+ghost use Rattle.std.specs.Prelude.{◌≡◌, ◌++◌, IfOk};
+ghost use Rattle.std.specs.Option.{option_map};
+ghost use Rattle.std.specs.String.{string_bytes};
+ghost use Rattle.emu_top.specs.Notes.{end_line, part_text, fault_text, cause_line, newline};
+
+use crate::cause::{Cause, Part};
+use elf_file::ElfFault;
+use guest_core::End;
+use std::alloc::{AllocError, Global};
+
+pub fn line_of_end(alloc: Global, end: &End) -> Result<Option<String>, AllocError>
+    ensures { IfOk result (λ line. option_map string_bytes line ≡ end_line end.now) }
+{
+    match end {
+        End::Exit(_) => Ok(None),
+        End::Killed(signal) => {
+            let signal = signal.number();
+            Ok(Some(format!(in alloc; "rvuser: killed by signal {signal}\n")?))
+        }
+        End::Budget => Ok(Some(String::from_str(
+            alloc,
+            "rvuser: budget of 4194304 events spent\n",
+        )?)),
+    }
+}
+
+fn text_of_part(alloc: Global, part: &Part) -> Result<String, AllocError>
+    ensures { IfOk result (λ text. string_bytes text ≡ part_text part.now) }
+{
+    match part {
+        Part::Folder => String::from_str(alloc, "folder"),
+        Part::Device(device) => format!(in alloc; "device {device}"),
+        Part::Notes => String::from_str(alloc, "notes"),
+    }
+}
+
+fn text_of_fault(alloc: Global, fault: &ElfFault) -> Result<String, AllocError>
+    ensures { IfOk result (λ text. string_bytes text ≡ fault_text fault.now) }
+{
+    match fault {
+        ElfFault::Short => String::from_str(alloc, "Short"),
+        ElfFault::NotElf => String::from_str(alloc, "NotElf"),
+        ElfFault::NotRiscv => String::from_str(alloc, "NotRiscv"),
+        ElfFault::Kind => String::from_str(alloc, "Kind"),
+        ElfFault::FloatAbi => String::from_str(alloc, "FloatAbi"),
+        ElfFault::Embedded => String::from_str(alloc, "Embedded"),
+        ElfFault::HeaderSize(size) => format!(in alloc; "HeaderSize {size}"),
+        ElfFault::NotYet => String::from_str(alloc, "NotYet"),
+        ElfFault::BadSegment(index) => format!(in alloc; "BadSegment {index}"),
+        ElfFault::Entry => String::from_str(alloc, "Entry"),
+        ElfFault::Memory => String::from_str(alloc, "Memory"),
+    }
+}
+
+/// The line of a fault.
+pub fn line_of_cause(alloc: Global, cause: &Cause) -> Result<String, AllocError>
+    ensures { IfOk result (λ line. string_bytes line ≡ cause_line cause.now) }
+{
+    match cause {
+        Cause::Usage { word } => format!(in alloc; "rvuser: usage: word {word}\n"),
+        Cause::NoProgram(program) => line(alloc, "rvuser: no file ", program.as_str()),
+        Cause::Elf(fault) => {
+            let text = text_of_fault(alloc, fault)?;
+            line(alloc, "rvuser: not runnable: ", text.as_str())
+        }
+        Cause::PagesFull { wanted } => format!(in alloc; "rvuser: {wanted} pages wanted\n"),
+        Cause::ReadFault(part) => {
+            let text = text_of_part(alloc, part)?;
+            line(alloc, "rvuser: read failed: ", text.as_str())
+        }
+        Cause::WriteFault(part) => {
+            let text = text_of_part(alloc, part)?;
+            line(alloc, "rvuser: write failed: ", text.as_str())
+        }
+        Cause::Memory => Ok(String::new(alloc)),
+    }
+}
+
+/// A line of two texts.
+fn line(alloc: Global, front: &str, back: &str) -> Result<String, AllocError>
+    ensures { IfOk result (λ line. string_bytes line ≡ front.now ++ (back.now ++ newline)) }
+{
+    let mut line = String::from_str(alloc, front)?;
+    line.push_str(back)?;
+    line.push('\n')?;
+    Ok(line)
+}
