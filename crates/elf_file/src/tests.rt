@@ -128,6 +128,10 @@ fn a_file_that_ends_in_its_headers(rt: HostRuntime) -> Result<(), Fail> {
             "{length}"
         );
     }
+    // a header alone, of a float ABI
+    let mut bytes = changed(rt.alloc(), 48, 4)?;
+    bytes.truncate(64);
+    assert!(rt; matches!(read(rt.alloc(), &bytes), Err(ElfFault::FloatAbi)));
     let mut bytes = file(rt.alloc())?;
     bytes.truncate(122);
     assert!(rt; matches!(read(rt.alloc(), &bytes), Err(ElfFault::BadSegment(0))));

@@ -1,5 +1,6 @@
-ghost use Rattle.std.specs.Prelude.{◌≡◌, ◌≤◌, ◌<◌, ◌+◌, ◌^◌, ◌++◌, ◌∷◌, [], length, vec_len, vec_capacity, IfSome, OnOk};
-ghost use Rattle.emu_top.specs.Journal.{counted, all_counted};
+ghost use Rattle.std.specs.Prelude.{◌≡◌, ◌≢◌, ◌≤◌, ◌<◌, ◌+◌, ◌^◌, ◌++◌, ◌∷◌, [], None, length, slice_index_or, vec_len, vec_capacity, IfSome, OnOk};
+ghost use Rattle.emu_top.specs.declared.journal.Entry.{Entry};
+ghost use Rattle.emu_top.specs.Journal.{thread_of, steps_of, counted, all_counted, IsMerged, EndsApart};
 
 use guest_core::Event;
 use std::alloc::{AllocError, Global};
@@ -22,13 +23,13 @@ pub struct Journal {
 
 impl Model for Journal {
     ghost use Rattle.std.specs.Prelude.{◌≡◌, ◌-◌, length, vec_len, vec_capacity};
-    ghost use Rattle.emu_top.specs.Journal.{History, all_counted};
+    ghost use Rattle.emu_top.specs.Journal.{History, IsMerged, all_counted};
 
     ghost Value = { History };
 
     ghost view = { λ journal. record { budget = journal.budget; events = all_counted journal.entries.items; room = vec_capacity journal.entries - vec_len journal.entries } };
 
-    ghost invariant = { λ journal. journal.count ≡ length (all_counted journal.entries.items) };
+    ghost invariant = { λ journal. (journal.count ≡ length (all_counted journal.entries.items)) × IsMerged journal.entries.items };
 }
 
 impl Journal {
@@ -57,7 +58,12 @@ impl Journal {
         self.count
     }
 
-    pub fn entries(&self) -> &[Entry] {
+    /// The entries, which counted out are the events. None is empty, and those that follow each other are of different
+    /// threads.
+    pub fn entries(&self) -> &[Entry]
+        ensures events { all_counted result.now ≡ self.now.events }
+        ensures merged { IsMerged result.now }
+    {
         self.entries.as_slice()
     }
 
@@ -84,30 +90,50 @@ impl Journal {
 }
 
 /// Adds a step of a thread to the last entry where that is of the same thread, else in an entry of its own.
-#[tactic(auto, using(crate::proofs::JournalFacts::last_fits, crate::proofs::JournalFacts::last_set, crate::proofs::JournalFacts::all_counted_more))]
+#[tactic(auto, using(crate::proofs::JournalFacts::last_set, crate::proofs::JournalFacts::all_counted_more, crate::proofs::JournalFacts::merged_set, crate::proofs::JournalFacts::merged_push))]
 fn note_step(entries: &mut Vec<Entry>, thread: u32)
     requires room { vec_len entries.old < vec_capacity entries.old }
     requires count { length (all_counted entries.old.items) + 1 < 2 ^ 32 }
-    ensures { all_counted entries.new.items ≡ all_counted entries.old.items ++ Event.Step thread ∷ [] }
+    requires merged { IsMerged entries.old.items }
+    ensures events { all_counted entries.new.items ≡ all_counted entries.old.items ++ Event.Step thread ∷ [] }
+    ensures merged { IsMerged entries.new.items }
 {
-    let len = entries.len();
-    if len > 0 {
-        let last = len - 1;
-        if let Some(entry) = with_step(entries[last], thread) {
-            entries[last] = entry;
-            return;
-        }
+    match longer_last(entries, thread) {
+        Some((last, entry)) => entries[last] = entry,
+        None => match entries.push(Entry::Steps { thread, count: 1 }) {
+            Ok(()) => {}
+            Err(_) => unreachable!(),
+        },
     }
-    match entries.push(Entry::Steps { thread, count: 1 }) {
-        Ok(()) => {}
-        Err(_) => unreachable!(),
+}
+
+/// The place of the last entry, and this entry with one more step, where it is of the same thread.
+#[tactic(auto, using(crate::proofs::JournalFacts::last_fits, crate::proofs::JournalFacts::ends_apart))]
+fn longer_last(entries: &[Entry], thread: u32) -> Option<(usize, Entry)>
+    requires { length (all_counted entries.now) + 1 < 2 ^ 32 }
+    ensures place { IfSome result (λ last. last.0 + 1 ≡ length entries.now) }
+    ensures longer { IfSome result (λ last. (d : Entry) → counted last.1 ≡ counted (slice_index_or entries.now last.0 d) ++ Event.Step thread ∷ []) }
+    ensures same { IfSome result (λ last. (d : Entry) → thread_of last.1 ≡ thread_of (slice_index_or entries.now last.0 d)) }
+    ensures some { IfSome result (λ last. 0 < steps_of last.1) }
+    ensures apart { result ≡ None → EndsApart entries.now thread }
+{
+    if entries.is_empty() {
+        return None;
+    }
+    let last = entries.len() - 1;
+    match with_step(entries[last], thread) {
+        Some(entry) => Some((last, entry)),
+        None => None,
     }
 }
 
 /// The entry with one more step, where it is of the same thread.
 fn with_step(entry: Entry, thread: u32) -> Option<Entry>
     requires { length (counted entry) + 1 < 2 ^ 32 }
-    ensures { IfSome result (λ longer. counted longer ≡ counted entry ++ Event.Step thread ∷ []) }
+    ensures longer { IfSome result (λ longer. counted longer ≡ counted entry ++ Event.Step thread ∷ []) }
+    ensures same { IfSome result (λ longer. thread_of longer ≡ thread_of entry) }
+    ensures some { IfSome result (λ longer. 0 < steps_of longer) }
+    ensures apart { result ≡ None → thread_of entry ≢ thread }
 {
     match entry {
         Entry::Steps {

@@ -25,7 +25,12 @@ impl MemDevice {
         input: Vec<u8>,
         failing_gives: Vec<u64>,
         failing_takes: Vec<u64>,
-    ) -> MemDevice {
+    ) -> MemDevice
+        ensures left { drop result.given result.input.items ≡ input.items }
+        ensures empty { result.held ≡ [] }
+        ensures reads { result.failed_reads ≡ 0 }
+        ensures writes { result.failed_writes ≡ 0 }
+    {
         MemDevice {
             input,
             given: 0,

@@ -1,5 +1,5 @@
-ghost use Rattle.std.specs.Prelude.{◌≡◌, ◌↔◌, ◌<◌, Some, IsTrue, IfSome, IfOk, length, map};
-ghost use Rattle.emu_top.specs.Files.{listed, IsFileOf, StandsAt};
+ghost use Rattle.std.specs.Prelude.{◌≡◌, ◌↔◌, ◌<◌, None, Some, IsTrue, IfSome, IfOk, length, map};
+ghost use Rattle.emu_top.specs.Files.{listed, NamesFile, IsFileOf, StandsAt};
 
 use crate::failing::Failing;
 use crate::folder::{Entry, Folder, FolderError, Kind, Listed};
@@ -16,7 +16,11 @@ pub struct MemFolder {
 }
 
 impl MemFolder {
-    pub fn new(entries: Vec<Entry>, failing_lists: Vec<u64>, failing_reads: Vec<u64>) -> MemFolder {
+    /// A folder of these entries.
+    pub fn new(entries: Vec<Entry>, failing_lists: Vec<u64>, failing_reads: Vec<u64>) -> MemFolder
+        ensures entries { result.entries ≡ entries }
+        ensures failed { result.failed_reads ≡ 0 }
+    {
         MemFolder {
             entries,
             failing_lists: Failing::new(failing_lists),
@@ -78,6 +82,7 @@ fn list_all(alloc: Global, entries: &[Entry]) -> Result<Vec<Listed>, AllocError>
 fn find_file(entries: &[Entry], path: &str) -> Option<usize>
     ensures within { IfSome result (λ place. place < length entries.now) }
     ensures found { IfSome result (StandsAt entries.now path.now) }
+    ensures none { result ≡ None → NamesFile (map listed entries.now) path.now → ⊥ }
 {
     for (place, entry) in entries.iter().enumerate() {
         if entry.kind == Kind::File && is_same(entry.path.as_str(), path) {

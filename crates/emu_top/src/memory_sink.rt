@@ -1,4 +1,4 @@
-ghost use Rattle.std.specs.Prelude.{◌≡◌, Some};
+ghost use Rattle.std.specs.Prelude.{◌≡◌, [], Some};
 
 use crate::failing::Failing;
 use crate::sink::{Sink, SinkFailed};
@@ -16,7 +16,10 @@ pub struct MemSink {
 
 impl MemSink {
     /// A sink that holds nothing.
-    pub fn new(alloc: Global, failing_puts: Vec<u64>) -> MemSink {
+    pub fn new(alloc: Global, failing_puts: Vec<u64>) -> MemSink
+        ensures empty { result.held ≡ [] }
+        ensures failed { result.failed_writes ≡ 0 }
+    {
         MemSink {
             held: Bytes::new(alloc),
             failing_puts: Failing::new(failing_puts),

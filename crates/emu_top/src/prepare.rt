@@ -23,8 +23,8 @@ pub enum LoadFault {
     Memory,
 }
 
-#[tactic(auto, using(crate::proofs::TopFacts::gives_fault))]
 /// The file that the words name in the folder. Only the program is read.
+#[tactic(auto, using(crate::proofs::TopFacts::gives_fault))]
 pub fn prepare<F: Folder>(alloc: Global, words: &[String], folder: &mut F) -> Result<Elf, Cause>
     ensures ok { IfOk result (λ elf. Prepared (F.tree folder.old) (map string_bytes words.now) (image elf)) }
     ensures cause { IfErr result (Unprepared (F.tree folder.old) (F.failed_reads folder.old) (F.failed_reads folder.new) (map string_bytes words.now)) }

@@ -32,8 +32,8 @@ impl Memory {
         Memory { start, bytes }
     }
 
-    #[tactic(auto, using(crate::proofs::Mapped::first_bad_none, crate::proofs::Mapped::first_bad_inside, crate::proofs::Mapped::first_bad_outside, crate::proofs::Mapped::first_bad_past))]
     /// The bytes of a range, or the least address of it that is not mapped. It takes no memory.
+    #[tactic(auto, using(crate::proofs::Mapped::first_bad_none, crate::proofs::Mapped::first_bad_inside, crate::proofs::Mapped::first_bad_outside, crate::proofs::Mapped::first_bad_past))]
     pub fn bytes_at(&self, at: u64, count: u64) -> Result<&[u8], u64>
         ensures range { MatchResult result
             (λ bytes. (first_bad self.now at count ≡ None) × (bytes.now ≡ bytes_at self.now at count))
