@@ -28,6 +28,8 @@ impl MemDevice {
     ) -> MemDevice
         ensures left { drop result.given result.input.items ≡ input.items }
         ensures empty { result.held ≡ [] }
+        ensures gives { result.failing_gives.numbers ≡ failing_gives }
+        ensures takes { result.failing_takes.numbers ≡ failing_takes }
         ensures reads { result.failed_reads ≡ 0 }
         ensures writes { result.failed_writes ≡ 0 }
     {

@@ -19,6 +19,8 @@ impl MemFolder {
     /// A folder of these entries.
     pub fn new(entries: Vec<Entry>, failing_lists: Vec<u64>, failing_reads: Vec<u64>) -> MemFolder
         ensures entries { result.entries ≡ entries }
+        ensures lists { result.failing_lists.numbers ≡ failing_lists }
+        ensures reads { result.failing_reads.numbers ≡ failing_reads }
         ensures failed { result.failed_reads ≡ 0 }
     {
         MemFolder {

@@ -18,6 +18,7 @@ impl MemSink {
     /// A sink that holds nothing.
     pub fn new(alloc: Global, failing_puts: Vec<u64>) -> MemSink
         ensures empty { result.held ≡ [] }
+        ensures puts { result.failing_puts.numbers ≡ failing_puts }
         ensures failed { result.failed_writes ≡ 0 }
     {
         MemSink {
