@@ -1,4 +1,4 @@
-use crate::text::Text;
+use file_tree::Text;
 use elf_file::ElfFault;
 
 /// An object outside the program.

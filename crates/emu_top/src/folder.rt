@@ -1,7 +1,7 @@
 ghost use Rattle.std.specs.Prelude.{◌≡◌, ◌++◌, ℕ, List, Option, IfOk, OnOk, OnErr};
 ghost use Rattle.emu_top.specs.Told.{HasCause, Rose};
 
-use crate::text::Text;
+use file_tree::Text;
 use elf_file::Bytes;
 use std::alloc::Global;
 

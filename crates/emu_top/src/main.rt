@@ -39,7 +39,6 @@ mod solo;
 mod streams;
 #[cfg(test)]
 mod tests;
-mod text;
 mod top;
 mod words;
 

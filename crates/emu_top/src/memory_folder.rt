@@ -3,7 +3,7 @@ ghost use Rattle.emu_top.specs.Files.{listed, NamesFile, IsFileOf, StandsAt};
 
 use crate::failing::Failing;
 use crate::folder::{Entry, Folder, FolderError, Kind, Listed};
-use crate::text::Text;
+use file_tree::Text;
 use std::alloc::{AllocError, Global};
 
 /// A folder in memory, which tells its entries. It fails at the listings and reads of the numbers that it is given.

@@ -3,7 +3,7 @@
 ghost use Rattle.std.specs.Prelude.{None, ◌≡◌, ◌++◌, List, ℕ, OnOk};
 
 use crate::folder::{Folder, FolderError, Kind, Listed};
-use crate::text::Text;
+use file_tree::Text;
 use std::alloc::{AllocError, Global};
 use std::fs::{self, Metadata};
 use std::io;

@@ -8,7 +8,7 @@ use crate::memory_device::MemDevice;
 use crate::memory_folder::MemFolder;
 use crate::memory_sink::MemSink;
 use crate::sink::{Sink, SinkFailed};
-use crate::text::Text;
+use file_tree::Text;
 use crate::top::{Finished, TopFault, solo_top};
 use elf_file::{Bytes, ElfFault};
 use guest_core::End;

@@ -1,10 +1,9 @@
 -- That every row keeps what every state keeps.
 use Rattle.std.proofs.Common.{◌≡◌, ◌≢◌, ap, ℕ, ◌==◌, Bool, true, false, cond, ℤ, List, [], ◌∷◌, Option, Some, None, Result, Ok, Err, OnOk, OnErr, slice_index, slice_set, refl, ◌∙◌, arith, get_or-set_other}
 use Rattle.std.proofs.lemmas.Grind.{common_steps}
+use Rattle.std.specs.Int.{w64, cast_unsigned}
 use Rattle.isa_decode.specs.declared.instruction.Instr.{Instr}
-use Rattle.isa_decode.specs.declared.instruction.Instr.TheVariants.{Lui, OpImm, Op, Ecall}
-use Rattle.isa_decode.specs.declared.instruction.ImmOp.TheVariants.{Addi}
-use Rattle.isa_decode.specs.declared.instruction.AluOp.TheVariants.{Add}
+use Rattle.isa_decode.specs.declared.instruction.Instr.TheVariants.{Lui, Auipc, Jal, Jalr, Branch, Load, Store, OpImm, Op, LoadReserved, StoreConditional, Amo, Fence, Ecall, Ebreak}
 use Rattle.isa_decode.specs.Listing.{decoding}
 use Rattle.guest_core.specs.declared.places.Place.{Place}
 use Rattle.guest_core.specs.declared.places.Place.TheVariants.{Loop, Start, Window, Done}
@@ -12,7 +11,7 @@ use Rattle.guest_core.specs.declared.queue.Instance.{Instance}
 use Rattle.guest_core.specs.declared.registers.Regs.{Regs}
 use Rattle.guest_core.specs.Memory.{Range}
 use Rattle.guest_core.specs.Pending.{first_new, first_of, is_empty}
-use Rattle.guest_core.specs.Registers.{with_register, after_four}
+use Rattle.guest_core.specs.Registers.{register, with_register, after_four}
 use Rattle.guest_core.specs.Instruction as step
 use Rattle.guest_core.specs.Call as call
 use Rattle.guest_core.specs.Machine.{Shared, Machine, due}
@@ -152,18 +151,30 @@ return_keeps answer machine keeps = record {
 
 -- ---- instructions
 
-runs_by : (rd value : ℕ) (regs after : Regs) → step.Outcome.Runs (after_four (with_register rd value regs)) ≡ step.Outcome.Runs after → slice_index after.x 0 ≡ slice_index regs.x 0
+puts_zero : (rd : ℕ) (value : Option ℕ) (regs after : Regs) → step.puts rd value regs ≡ step.Outcome.Runs after → slice_index after.x 0 ≡ slice_index regs.x 0
 unfolding after_four
-runs_by rd value regs after same =
+puts_zero rd (Some value) regs after same =
     let equal : after ≡ after_four (with_register rd value regs) = cc in
     rw equal (zero_kept rd value regs)
+puts_zero rd None regs after same = cc
 
 runs_zero : (instr : Instr) (regs after : Regs) → step.executed instr regs ≡ step.Outcome.Runs after → slice_index after.x 0 ≡ slice_index regs.x 0
-unfolding step.executed after_four
-runs_zero (Lui rd imm) regs after same = runs_by rd _ regs after same
-runs_zero (OpImm Addi rd rs1 imm) regs after same = runs_by rd _ regs after same
-runs_zero (Op Add rd rs1 rs2) regs after same = runs_by rd _ regs after same
+unfolding step.executed
+runs_zero (Lui rd imm) regs after same = puts_zero rd (Some (cast_unsigned w64 imm)) regs after same
+runs_zero (OpImm op rd rs1 imm) regs after same = puts_zero rd (step.immediate_result op (register regs rs1) imm) regs after same
+runs_zero (Op op rd rs1 rs2) regs after same = puts_zero rd (step.operation_result op (register regs rs1) (register regs rs2)) regs after same
 runs_zero Ecall regs after same = cc
+runs_zero (Auipc rd imm) regs after same = cc
+runs_zero (Jal rd imm) regs after same = cc
+runs_zero (Jalr rd rs1 imm) regs after same = cc
+runs_zero (Branch cmp rs1 rs2 imm) regs after same = cc
+runs_zero (Load kind rd rs1 imm) regs after same = cc
+runs_zero (Store width rs1 rs2 imm) regs after same = cc
+runs_zero (LoadReserved wide order rd rs1) regs after same = cc
+runs_zero (StoreConditional wide order rd rs1 rs2) regs after same = cc
+runs_zero (Amo op wide order rd rs1 rs2) regs after same = cc
+runs_zero (Fence code rd rs1 imm) regs after same = cc
+runs_zero Ebreak regs after same = cc
 
 decoded_zero : (instr : Option Instr) (regs after : Regs) → step.of_instruction instr regs ≡ step.Outcome.Runs after → slice_index after.x 0 ≡ slice_index regs.x 0
 decoded_zero (Some instr) regs after same = runs_zero instr regs after same

@@ -1,11 +1,13 @@
 -- What one instruction does, as a function of the registers and the memory. A fault changes nothing.
 -- Source: the RISC-V unprivileged manual, "RV64I Base Integer Instruction Set". The signals of faults: sigaction(2).
-use Rattle.std.specs.Prelude.{ℕ, ◌+◌, ◌*◌, ◌%◌, ◌^◌, ◌==◌, if◌then◌else◌, Option, Some, None, Result, Ok, Err}
+use Rattle.std.specs.Prelude.{ℕ, ℤ, ◌+◌, ◌*◌, ◌%◌, ◌^◌, ◌==◌, if◌then◌else◌, Option, Some, None, Result, Ok, Err}
 use Rattle.std.specs.Int.{w64, cast_unsigned}
 use Rattle.isa_decode.specs.declared.instruction.Instr.{Instr}
-use Rattle.isa_decode.specs.declared.instruction.Instr.TheVariants.{Lui, OpImm, Op, Ecall}
-use Rattle.isa_decode.specs.declared.instruction.ImmOp.TheVariants.{Addi}
-use Rattle.isa_decode.specs.declared.instruction.AluOp.TheVariants.{Add}
+use Rattle.isa_decode.specs.declared.instruction.Instr.TheVariants.{Lui, Auipc, Jal, Jalr, Branch, Load, Store, OpImm, Op, LoadReserved, StoreConditional, Amo, Fence, Ecall, Ebreak}
+use Rattle.isa_decode.specs.declared.instruction.ImmOp.{ImmOp}
+use Rattle.isa_decode.specs.declared.instruction.ImmOp.TheVariants.{Addi, Slti, Sltiu, Xori, Ori, Andi, Slli, Srli, Srai, Addiw, Slliw, Srliw, Sraiw}
+use Rattle.isa_decode.specs.declared.instruction.AluOp.{AluOp}
+use Rattle.isa_decode.specs.declared.instruction.AluOp.TheVariants.{Add, Sub, Sll, Slt, Sltu, Xor, Srl, Sra, Or, And, Mul, Mulh, Mulhsu, Mulhu, Div, Divu, Rem, Remu, Addw, Subw, Sllw, Srlw, Sraw, Mulw, Divw, Divuw, Remw, Remuw}
 use Rattle.isa_decode.specs.Listing.{decoding}
 use Rattle.guest_core.specs.declared.queue.Fault.{Fault}
 use Rattle.guest_core.specs.declared.registers.Regs.{Regs}
@@ -26,14 +28,77 @@ illegal pc = record { signal = 4; code = 1; address = pc }
 abbrev pub unmapped : ℕ → Fault
 unmapped address = record { signal = 11; code = 1; address = address }
 
--- arithmetic is modulo 2 ^ 64
+-- an instruction that isn't carried out yet is none
+abbrev pub not_yet : Regs → Outcome
+not_yet regs = Faults (illegal regs.pc)
+
+-- the value goes into rd
+abbrev pub puts : ℕ → Option ℕ → Regs → Outcome
+puts rd (Some value) regs = Runs (after_four (with_register rd value regs))
+puts rd None regs = not_yet regs
+
+-- arithmetic is modulo 2 ^ 64; None is not carried out yet
+abbrev pub immediate_result : ImmOp → ℕ → ℤ → Option ℕ
+immediate_result Addi a imm = Some ((a + cast_unsigned w64 imm) % 2 ^ 64)
+immediate_result Slti a imm = None
+immediate_result Sltiu a imm = None
+immediate_result Xori a imm = None
+immediate_result Ori a imm = None
+immediate_result Andi a imm = None
+immediate_result Slli a imm = None
+immediate_result Srli a imm = None
+immediate_result Srai a imm = None
+immediate_result Addiw a imm = None
+immediate_result Slliw a imm = None
+immediate_result Srliw a imm = None
+immediate_result Sraiw a imm = None
+
+abbrev pub operation_result : AluOp → ℕ → ℕ → Option ℕ
+operation_result Add a b = Some ((a + b) % 2 ^ 64)
+operation_result Sub a b = None
+operation_result Sll a b = None
+operation_result Slt a b = None
+operation_result Sltu a b = None
+operation_result Xor a b = None
+operation_result Srl a b = None
+operation_result Sra a b = None
+operation_result Or a b = None
+operation_result And a b = None
+operation_result Mul a b = None
+operation_result Mulh a b = None
+operation_result Mulhsu a b = None
+operation_result Mulhu a b = None
+operation_result Div a b = None
+operation_result Divu a b = None
+operation_result Rem a b = None
+operation_result Remu a b = None
+operation_result Addw a b = None
+operation_result Subw a b = None
+operation_result Sllw a b = None
+operation_result Srlw a b = None
+operation_result Sraw a b = None
+operation_result Mulw a b = None
+operation_result Divw a b = None
+operation_result Divuw a b = None
+operation_result Remw a b = None
+operation_result Remuw a b = None
+
 unfoldable pub executed : Instr → Regs → Outcome
-executed (Lui rd imm) regs = Runs (after_four (with_register rd (cast_unsigned w64 imm) regs))
-executed (OpImm Addi rd rs1 imm) regs =
-    Runs (after_four (with_register rd ((register regs rs1 + cast_unsigned w64 imm) % 2 ^ 64) regs))
-executed (Op Add rd rs1 rs2) regs =
-    Runs (after_four (with_register rd ((register regs rs1 + register regs rs2) % 2 ^ 64) regs))
+executed (Lui rd imm) regs = puts rd (Some (cast_unsigned w64 imm)) regs
+executed (OpImm op rd rs1 imm) regs = puts rd (immediate_result op (register regs rs1) imm) regs
+executed (Op op rd rs1 rs2) regs = puts rd (operation_result op (register regs rs1) (register regs rs2)) regs
 executed Ecall regs = Calls
+executed (Auipc rd imm) regs = not_yet regs
+executed (Jal rd imm) regs = not_yet regs
+executed (Jalr rd rs1 imm) regs = not_yet regs
+executed (Branch cmp rs1 rs2 imm) regs = not_yet regs
+executed (Load kind rd rs1 imm) regs = not_yet regs
+executed (Store width rs1 rs2 imm) regs = not_yet regs
+executed (LoadReserved wide order rd rs1) regs = not_yet regs
+executed (StoreConditional wide order rd rs1 rs2) regs = not_yet regs
+executed (Amo op wide order rd rs1 rs2) regs = not_yet regs
+executed (Fence code rd rs1 imm) regs = not_yet regs
+executed Ebreak regs = not_yet regs
 
 -- a half word with both low bits set is the low half of a word
 abbrev pub joined : ℕ → Result ℕ ℕ → Result ℕ ℕ

@@ -11,6 +11,8 @@ use isa_decode::{AluOp, ImmOp, Instr};
 pub enum Effect {
     Next,
     Call,
+    /// The instruction isn't carried out yet.
+    Illegal,
 }
 
 /// Makes an instruction. After `Next` the registers are final, otherwise they are unchanged. It takes no memory.
@@ -21,24 +23,27 @@ pub enum Effect {
 pub fn execute(instr: &Instr, regs: &mut Regs) -> Effect
     requires { InRange instr.now }
     ensures effect { executed instr.now regs.old ≡ outcome result regs.new }
-    ensures unchanged { result ≡ Effect.Call → regs.new ≡ regs.old }
+    ensures call { result ≡ Effect.Call → regs.new ≡ regs.old }
+    ensures illegal { result ≡ Effect.Illegal → regs.new ≡ regs.old }
 {
-    match *instr {
-        Instr::Lui { rd, imm } => regs.set_register(rd, imm.cast_unsigned()),
+    let (rd, value) = match *instr {
+        Instr::Lui { rd, imm } => (rd, imm.cast_unsigned()),
         Instr::OpImm {
             op: ImmOp::Addi,
             rd,
             rs1,
             imm,
-        } => regs.set_register(rd, regs.register(rs1).wrapping_add(imm.cast_unsigned())),
+        } => (rd, regs.register(rs1).wrapping_add(imm.cast_unsigned())),
         Instr::Op {
             op: AluOp::Add,
             rd,
             rs1,
             rs2,
-        } => regs.set_register(rd, regs.register(rs1).wrapping_add(regs.register(rs2))),
+        } => (rd, regs.register(rs1).wrapping_add(regs.register(rs2))),
         Instr::Ecall => return Effect::Call,
-    }
+        _ => return Effect::Illegal,
+    };
+    regs.set_register(rd, value);
     regs.pass_four();
     Effect::Next
 }

@@ -91,6 +91,7 @@ impl State {
         match execute(&instr, &mut self.regs) {
             Effect::Next => {}
             Effect::Call => self.place = Place::Start,
+            Effect::Illegal => return self.host.pending.send_forced(illegal(pc)),
         }
         Ok(())
     }

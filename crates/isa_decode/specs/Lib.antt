@@ -1,3 +1,4 @@
 pub mod Fields
+pub mod Groups
 pub mod Listing
 pub mod Ranges

@@ -151,6 +151,10 @@ impl Process {
         match execute(&instr, &mut self.regs) {
             Effect::Next => Ok(true),
             Effect::Call => Ok(false),
+            Effect::Illegal => {
+                self.fault(SigNo::illegal_instruction(), pc)?;
+                Ok(true)
+            }
         }
     }
 

@@ -1,0 +1,3 @@
+pub mod OpcodeFacts
+pub mod RowFacts
+pub mod WordFacts
