@@ -1,5 +1,5 @@
-use file_tree::Text;
 use elf_file::ElfFault;
+use file_tree::Text;
 
 /// An object outside the program.
 #[derive(Clone, Copy, Debug, PartialEq, Eq)]

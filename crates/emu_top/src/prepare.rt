@@ -10,9 +10,9 @@ ghost use Rattle.emu_top.specs.Solo.{is_reserved as reserved, HasProgram, Found,
 use crate::cause::{Cause, Part};
 use crate::folder::{Folder, FolderError, Kind, Listed};
 use crate::memory_folder::is_same;
-use file_tree::Text;
 use crate::words::read_words;
 use elf_file::{Elf, ElfFault};
+use file_tree::Text;
 use std::alloc::Global;
 
 /// Why no program was loaded.
