@@ -1,4 +1,5 @@
-/* One program header, and one segment that can be read and executed. */
+/* One program header, and one segment that can be read and executed: code and constants.
+   The linker refuses a program that uses data which could be written. */
 ENTRY(_start)
 PHDRS
 {
@@ -7,6 +8,7 @@ PHDRS
 SECTIONS
 {
     . = 0x10000 + SIZEOF_HEADERS;
-    .text : { *(.text) } :text
-    /DISCARD/ : { *(.data) *(.bss) *(.riscv.attributes) *(.note*) *(.comment) }
+    .text : { *(.text .text.*) *(.rodata .rodata.* .srodata .srodata.*) } :text
+    /DISCARD/ : { *(.data .data.* .sdata .sdata.* .bss .bss.* .sbss .sbss.* COMMON)
+                  *(.eh_frame) *(.riscv.attributes) *(.note*) *(.comment) }
 }

@@ -9,12 +9,12 @@ use Rattle.guest_core.specs.declared.events.Event.TheVariants.{Step}
 use Rattle.guest_core.specs.declared.places.Place.{Place}
 use Rattle.guest_core.specs.declared.places.Place.TheVariants.{Loop, Start, Window, Done}
 use Rattle.guest_core.specs.declared.queue.Instance.{Instance}
-use Rattle.guest_core.specs.declared.registers.Regs.{Regs}
+use Rattle.isa_exec.specs.declared.registers.Regs.{Regs}
 use Rattle.guest_core.specs.Call as call
-use Rattle.guest_core.specs.Event.{first_thread, is_enabled, event_after, run}
+use Rattle.guest_core.specs.Event.{is_enabled, event_after, run}
 use Rattle.guest_core.specs.Instruction as instruction
 use Rattle.guest_core.specs.Kept.{Keeps}
-use Rattle.guest_core.specs.Machine.{Shared, Machine, due}
+use Rattle.guest_core.specs.Machine.{Shared, Machine, due, first_thread}
 use Rattle.guest_core.specs.Pending.{first_of, is_empty}
 use Rattle.guest_core.specs.Rows.{Row, Note, Take, ClearFlag, Execute, Check, Enter, Return, row_of, done, noted_at, noted, taken, flag_cleared, after, executed, checked, after_call, entered, returned, stepped, ticked}
 use Rattle.guest_core.specs.Start.{started}
@@ -72,15 +72,15 @@ clear_simulates : (machine : Machine) → Simulates ClearFlag machine
 unfolding flag_cleared
 clear_simulates machine = refl
 
-execute_by : (outcome : instruction.Outcome) (shared : Shared) (regs : Regs) (flag : Bool) (noted : List ℕ) → instruction.instruction regs shared.memory ≡ outcome → shared.pending ≡ [] → process.follow (Some (record { shared = shared; regs = regs; end = None })) (instruction_labels outcome) ≡ Some (view (after outcome (at shared regs Loop flag noted)))
+execute_by : (outcome : instruction.Outcome) (shared : Shared) (regs : Regs) (flag : Bool) (noted : List ℕ) → instruction.instruction first_thread regs shared.memory shared.held ≡ outcome → shared.pending ≡ [] → process.follow (Some (record { shared = shared; regs = regs; end = None })) (instruction_labels outcome) ≡ Some (view (after outcome (at shared regs Loop flag noted)))
 unfolding process.step
-execute_by (instruction.Outcome.Runs new) shared regs flag noted is none = rw (none, is) refl
+execute_by (instruction.Outcome.Runs new memory held) shared regs flag noted is none = rw (none, is) refl
 execute_by instruction.Outcome.Calls shared regs flag noted is none = refl
 execute_by (instruction.Outcome.Faults fault) shared regs flag noted is none = rw (none, is) refl
 
 execute_at : (shared : Shared) (regs : Regs) (flag : Bool) (noted : List ℕ) → shared.pending ≡ [] → Simulates Execute (at shared regs Loop flag noted)
 unfolding executed
-execute_at shared regs flag noted none = execute_by (instruction.instruction regs shared.memory) shared regs flag noted refl none
+execute_at shared regs flag noted none = execute_by (instruction.instruction first_thread regs shared.memory shared.held) shared regs flag noted refl none
 
 check_at : (shared : Shared) (regs : Regs) (flag : Bool) (noted : List ℕ) → Simulates Check (at shared regs Start flag noted)
 unfolding checked
@@ -91,7 +91,7 @@ call_by : (outcome : call.Outcome) (new shared : Shared) (regs : Regs) (flag : B
 call_by (call.Outcome.Answers answer) new shared regs flag noted = refl
 call_by (call.Outcome.Ends end) new shared regs flag noted = refl
 
-enter_at : (shared : Shared) (regs : Regs) (flag : Bool) (noted : List ℕ) → instruction.instruction regs shared.memory ≡ instruction.Outcome.Calls → shared.pending ≡ [] → Simulates Enter (at shared regs Window flag noted)
+enter_at : (shared : Shared) (regs : Regs) (flag : Bool) (noted : List ℕ) → instruction.instruction first_thread regs shared.memory shared.held ≡ instruction.Outcome.Calls → shared.pending ≡ [] → Simulates Enter (at shared regs Window flag noted)
 unfolding entered process.step
 enter_at shared regs flag noted is none =
     let called = call.called regs shared in

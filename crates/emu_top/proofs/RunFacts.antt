@@ -1,7 +1,8 @@
 -- A run goes on by a turn.
 use Rattle.std.proofs.Common.{◌≡◌, ℕ, ◌+◌, ◌<◌, ◌≤◌, List, [], ◌∷◌, Option, Some, map, length, slice_index, ap, sym, ◌∙◌, length-append, arith}
 use Rattle.guest_core.specs.declared.events.Event.TheVariants.{Step}
-use Rattle.guest_core.specs.Event.{first_thread, run}
+use Rattle.guest_core.specs.Machine.{first_thread}
+use Rattle.guest_core.specs.Event.{run}
 use Rattle.guest_core.proofs.RunFacts.{run_append}
 use Rattle.emu_top.specs.declared.solo.Halt.{Halt}
 use Rattle.emu_top.specs.declared.solo.Halt.TheVariants as halts

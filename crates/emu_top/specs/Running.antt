@@ -4,7 +4,8 @@ use Rattle.std.specs.Prelude.{◌≡◌, ◌<◌, ◌≤◌, ℕ, List, [], ◌�
 use Rattle.guest_core.specs.declared.events.Event.TheVariants.{Step}
 use Rattle.guest_core.specs.declared.ends.End.{End}
 use Rattle.guest_core.specs.declared.ends.End.TheVariants.{Budget}
-use Rattle.guest_core.specs.Event.{first_thread, event_after, run}
+use Rattle.guest_core.specs.Machine.{first_thread}
+use Rattle.guest_core.specs.Event.{event_after, run}
 use Rattle.emu_top.specs.declared.solo.Halt.{Halt}
 use Rattle.emu_top.specs.declared.solo.Halt.TheVariants as halts
 use Rattle.emu_top.specs.declared.solo.Run.{Run}

@@ -3,7 +3,7 @@
 -- The project's own.
 use Rattle.guest_core.specs.declared.places.Place.{Place}
 use Rattle.guest_core.specs.declared.places.Place.TheVariants.{Loop, Start, Window, Done}
-use Rattle.guest_core.specs.declared.registers.Regs.{Regs}
+use Rattle.isa_exec.specs.declared.registers.Regs.{Regs}
 use Rattle.guest_core.specs.Call.{answered}
 use Rattle.guest_core.specs.Machine.{Machine}
 use Rattle.linux_model.specs.Process.{ProcessState}

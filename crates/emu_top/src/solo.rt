@@ -1,7 +1,8 @@
 //! The schedule of `solo`: one step after another, each followed by what it wrote.
 
 ghost use Rattle.std.specs.Prelude.{◌≡◌, ◌≤◌, ◌<◌, ◌+◌, ◌^◌, ◌++◌, ◌∷◌, [], ℕ, None, Some, Err, map, length, take, slice_index, slice_index_or, slice_set, OnOk, OnErr, IfOk, IfErr};
-ghost use Rattle.guest_core.specs.Event.{first_thread, event_after};
+ghost use Rattle.guest_core.specs.Event.{event_after};
+ghost use Rattle.guest_core.specs.Machine.{first_thread};
 ghost use Rattle.guest_core.specs.Growth.{lengthens, Lengthened};
 ghost use Rattle.emu_top.specs.Told.{more, Rose};
 ghost use Rattle.emu_top.specs.Sending.{NoneFell};

@@ -364,14 +364,14 @@ fn calls(number: u32, descriptor: u32, address: u32, length: u32) -> [u32; 7] {
 
 #[test]
 fn answers_of_calls(rt: HostRuntime) -> Result<(), Fail> {
-    // write of no byte, of two bytes, to no device, from no memory, from memory that ends; and no call
+    // write of no byte, of two bytes, to no device, from no memory, of the zeros behind the file's bytes; and no call
     let table = [
         (64, 1, 0x10, 0, 0),
         (64, 2, 0x10, 2, 2),
         (64, 3, 0x10, 2, 256 - 9),
         (64, 3, 0x20, 2, 256 - 9),
         (64, 1, 0x20, 2, 256 - 14),
-        (64, 1, 0x10, 29, 256 - 14),
+        (64, 1, 0x10, 29, 29),
         (1000, 1, 0x10, 2, 256 - 38),
     ];
     for (number, descriptor, address, length, status) in table {
@@ -391,8 +391,11 @@ fn answers_of_calls(rt: HostRuntime) -> Result<(), Fail> {
 }
 
 #[test]
-fn is_killed_behind_its_code(rt: HostRuntime) -> Result<(), Fail> {
-    let bytes = file_of(rt.alloc(), &[0x0070_0513], &[])?;
+fn is_killed_at_a_fetch_across_the_end_of_its_page(rt: HostRuntime) -> Result<(), Fail> {
+    // a page of c.nop, whose last half word is the first half of an instruction of 4 bytes
+    let mut words = vec![in rt.alloc(); 0x0001_0001; 1023]?;
+    words.push(0x0513_0001)?;
+    let bytes = file_of(rt.alloc(), &words, &[])?;
     let (answer, line) = answer_to(rt.alloc(), bytes)?;
     let Ok(finished) = answer else {
         return Err("it finishes")?;
@@ -403,14 +406,14 @@ fn is_killed_behind_its_code(rt: HostRuntime) -> Result<(), Fail> {
         line.as_slice(),
         b"rvuser: killed by signal 11\n".as_slice()
     );
-    assert_eq!(rt; steps(&finished.journal), Some(4));
+    assert_eq!(rt; steps(&finished.journal), Some(2050));
     Ok(())
 }
 
 #[test]
 fn the_budget_is_spent(rt: HostRuntime) -> Result<(), Fail> {
-    let words = vec![in rt.alloc(); 0x0000_0013; 4194304]?;
-    let bytes = file_of(rt.alloc(), &words, &[])?;
+    // a jump to itself
+    let bytes = file_of(rt.alloc(), &[0x0000_006F], &[])?;
     let (answer, line) = answer_to(rt.alloc(), bytes)?;
     let Ok(finished) = answer else {
         return Err("it finishes")?;

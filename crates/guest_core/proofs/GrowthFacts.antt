@@ -5,13 +5,14 @@ use Rattle.guest_core.specs.declared.events.Event.{Event}
 use Rattle.guest_core.specs.declared.events.Event.TheVariants.{Step}
 use Rattle.guest_core.specs.declared.places.Place.{Place}
 use Rattle.guest_core.specs.declared.places.Place.TheVariants.{Loop, Start, Window, Done}
-use Rattle.guest_core.specs.declared.registers.Regs.{Regs}
-use Rattle.guest_core.specs.Memory.{first_bad}
-use Rattle.guest_core.specs.Registers.{register}
+use Rattle.isa_exec.specs.declared.registers.Regs.{Regs}
+use Rattle.isa_exec.specs.Registers.{register}
+use Rattle.guest_pages.specs.declared.fault.PageFault.{PageFault}
+use Rattle.guest_pages.specs.Faults.{first_fault, readable}
 use Rattle.guest_core.specs.Call as call
 use Rattle.guest_core.specs.Instruction as step
 use Rattle.guest_core.specs.Machine.{Shared, Machine}
-use Rattle.guest_core.specs.Rows.{Row, Note, Take, ClearFlag, Execute, Check, Enter, Return, row_of, done, noted, taken, flag_cleared, after, executed, checked, after_call, entered, returned, stepped, ticked}
+use Rattle.guest_core.specs.Rows.{Row, Note, Take, ClearFlag, Execute, Check, Enter, Return, row_of, done, noted, taken, flag_cleared, after, executed, checked, after_call, entered, instruction_of, returned, stepped, ticked}
 use Rattle.guest_core.specs.Growth.{lengthens_at, lengthens, Lengthened}
 use Rattle.guest_core.specs.Kept.{Keeps}
 use Rattle.guest_core.proofs.KeptFacts.{Fits, row_fits, tick_keeps}
@@ -24,7 +25,7 @@ same_lengthened : (device : Option ℕ) (old new : List (List ℕ)) → new ≡ 
 same_lengthened None old new same = same
 same_lengthened (Some device) old new same = ([], same ∙ nothing_more device old)
 
-written_lengthened : (bad : Option ℕ) (descriptor at count : ℕ) (shared : Shared) → Lengthened (Some descriptor) shared.outputs (call.written bad descriptor at count shared).shared.outputs
+written_lengthened : (bad : Option PageFault) (descriptor at count : ℕ) (shared : Shared) → Lengthened (Some descriptor) shared.outputs (call.written bad descriptor at count shared).shared.outputs
 written_lengthened (Some bad) descriptor at count shared = same_lengthened (Some descriptor) shared.outputs shared.outputs refl
 written_lengthened None descriptor at count shared = (_, refl)
 
@@ -41,11 +42,11 @@ unfolding call.write
 write_lengthened descriptor at wish shared =
     let count = min wish 1048576 in
     either_lengthened (nat_lt descriptor (length shared.outputs)) (Some descriptor) None shared.outputs
-    (call.written (first_bad shared.memory at count) descriptor at count shared) (call.refused call.bad_descriptor shared)
-    (written_lengthened (first_bad shared.memory at count) descriptor at count shared) refl
+    (call.written (first_fault readable shared.memory at count) descriptor at count shared) (call.refused call.bad_descriptor shared)
+    (written_lengthened (first_fault readable shared.memory at count) descriptor at count shared) refl
 
 called_lengthened : (regs : Regs) (shared : Shared) → Lengthened (call.output_of_call regs shared) shared.outputs (call.called regs shared).shared.outputs
-unfolding call.output_of_call call.called
+unfolding call.output_of_call call.called call.made
 called_lengthened regs shared =
     let first = call.write (register regs 10) (register regs 11) (register regs 12) shared in
     let second = call.exit_group (register regs 10) shared in
@@ -74,7 +75,7 @@ enter_lengthened machine window =
     (entered_by called.outcome called.shared machine (call.output_of_call machine.regs machine.shared) machine.shared.outputs (called_lengthened machine.regs machine.shared))
 
 after_same : (outcome : step.Outcome) (machine : Machine) → (after outcome machine).shared.outputs ≡ machine.shared.outputs
-after_same (step.Outcome.Runs regs) machine = refl
+after_same (step.Outcome.Runs regs memory held) machine = refl
 after_same step.Outcome.Calls machine = refl
 after_same (step.Outcome.Faults fault) machine = refl
 
@@ -83,7 +84,7 @@ unfolding noted taken flag_cleared executed checked returned
 row_lengthened (Note instance) machine fits = same_lengthened _ _ _ refl
 row_lengthened (Take instance) machine fits = same_lengthened _ _ _ refl
 row_lengthened ClearFlag machine fits = same_lengthened _ _ _ refl
-row_lengthened Execute machine fits = same_lengthened _ _ _ (after_same (step.instruction machine.regs machine.shared.memory) machine)
+row_lengthened Execute machine fits = same_lengthened _ _ _ (after_same (instruction_of machine) machine)
 row_lengthened Check machine fits = same_lengthened _ _ _ refl
 row_lengthened Enter machine fits = enter_lengthened machine fits.0
 row_lengthened (Return answer) machine fits = same_lengthened _ _ _ refl

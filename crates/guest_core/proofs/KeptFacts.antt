@@ -1,23 +1,26 @@
 -- That every row keeps what every state keeps.
 use Rattle.std.proofs.Common.{◌≡◌, ◌≢◌, ap, ℕ, ◌==◌, Bool, true, false, cond, ℤ, List, [], ◌∷◌, Option, Some, None, Result, Ok, Err, OnOk, OnErr, slice_index, slice_set, refl, ◌∙◌, arith, get_or-set_other}
 use Rattle.std.proofs.lemmas.Grind.{common_steps}
-use Rattle.std.specs.Int.{w64, cast_unsigned}
 use Rattle.isa_decode.specs.declared.instruction.Instr.{Instr}
 use Rattle.isa_decode.specs.declared.instruction.Instr.TheVariants.{Lui, Auipc, Jal, Jalr, Branch, Load, Store, OpImm, Op, LoadReserved, StoreConditional, Amo, Fence, Ecall, Ebreak}
-use Rattle.isa_decode.specs.Listing.{decoding}
 use Rattle.guest_core.specs.declared.places.Place.{Place}
 use Rattle.guest_core.specs.declared.places.Place.TheVariants.{Loop, Start, Window, Done}
 use Rattle.guest_core.specs.declared.queue.Instance.{Instance}
-use Rattle.guest_core.specs.declared.registers.Regs.{Regs}
-use Rattle.guest_core.specs.Memory.{Range}
+use Rattle.isa_exec.specs.declared.registers.Regs.{Regs}
+use Rattle.isa_exec.specs.Execution.{linked, put, regs_after}
+use Rattle.isa_exec.specs.Registers.{behind, going_on_at, with_register}
+use Rattle.guest_pages.specs.declared.fault.PageFault.{PageFault}
+use Rattle.guest_pages.specs.Ranges.{Range}
+use Rattle.word_memory.specs.declared.fault.WordFault.{WordFault}
+use Rattle.word_memory.specs.declared.reservations.Held.{Held}
 use Rattle.guest_core.specs.Pending.{first_new, first_of, is_empty}
-use Rattle.guest_core.specs.Registers.{register, with_register, after_four}
 use Rattle.guest_core.specs.Instruction as step
 use Rattle.guest_core.specs.Call as call
-use Rattle.guest_core.specs.Machine.{Shared, Machine, due}
-use Rattle.guest_core.specs.Rows.{Row, Note, Take, ClearFlag, Execute, Check, Enter, Return, note_or, take_or, row_at, flagged_row, row_of, done, noted_at, noted, taken, flag_cleared, after, executed, checked, after_call, entered, returned, stepped, ticked}
+use Rattle.guest_core.specs.Machine.{Shared, Machine, due, first_thread}
+use Rattle.guest_core.specs.Rows.{Row, Note, Take, ClearFlag, Execute, Check, Enter, Return, note_or, take_or, row_at, flagged_row, row_of, done, noted_at, noted, taken, flag_cleared, after, executed, checked, after_call, entered, instruction_of, returned, stepped, ticked}
 use Rattle.guest_core.specs.Kept.{Keeps, has_id, all_have}
 use Rattle.guest_core.proofs.Due.{nothing_due}
+use Rattle.guest_core.proofs.EffectFacts.{calls_is_ecall}
 use Rattle.guest_core.proofs.Noted.{found_has_id, all_have_more, all_have_left}
 
 -- ---- register 0
@@ -140,7 +143,7 @@ unfolding checked
 check_keeps machine keeps start = check_by machine.flag machine refl keeps start
 
 return_keeps : (answer : ℤ) (machine : Machine) → Keeps machine → Keeps (returned answer machine)
-unfolding returned after_four
+unfolding returned call.answered going_on_at
 return_keeps answer machine keeps = record {
   noted_due = keeps.noted_due;
   flag_set = keeps.flag_set;
@@ -151,50 +154,100 @@ return_keeps answer machine keeps = record {
 
 -- ---- instructions
 
-puts_zero : (rd : ℕ) (value : Option ℕ) (regs after : Regs) → step.puts rd value regs ≡ step.Outcome.Runs after → slice_index after.x 0 ≡ slice_index regs.x 0
-unfolding after_four
-puts_zero rd (Some value) regs after same =
-    let equal : after ≡ after_four (with_register rd value regs) = cc in
-    rw equal (zero_kept rd value regs)
-puts_zero rd None regs after same = cc
+put_zero : (rd value size : ℕ) (regs : Regs) → slice_index (put rd value size regs).x 0 ≡ slice_index regs.x 0
+unfolding going_on_at
+put_zero rd value size regs = zero_kept rd value regs
 
-runs_zero : (instr : Instr) (regs after : Regs) → step.executed instr regs ≡ step.Outcome.Runs after → slice_index after.x 0 ≡ slice_index regs.x 0
-unfolding step.executed
-runs_zero (Lui rd imm) regs after same = puts_zero rd (Some (cast_unsigned w64 imm)) regs after same
-runs_zero (OpImm op rd rs1 imm) regs after same = puts_zero rd (step.immediate_result op (register regs rs1) imm) regs after same
-runs_zero (Op op rd rs1 rs2) regs after same = puts_zero rd (step.operation_result op (register regs rs1) (register regs rs2)) regs after same
-runs_zero Ecall regs after same = cc
-runs_zero (Auipc rd imm) regs after same = cc
-runs_zero (Jal rd imm) regs after same = cc
-runs_zero (Jalr rd rs1 imm) regs after same = cc
-runs_zero (Branch cmp rs1 rs2 imm) regs after same = cc
-runs_zero (Load kind rd rs1 imm) regs after same = cc
-runs_zero (Store width rs1 rs2 imm) regs after same = cc
-runs_zero (LoadReserved wide order rd rs1) regs after same = cc
-runs_zero (StoreConditional wide order rd rs1 rs2) regs after same = cc
-runs_zero (Amo op wide order rd rs1 rs2) regs after same = cc
-runs_zero (Fence code rd rs1 imm) regs after same = cc
-runs_zero Ebreak regs after same = cc
+linked_zero : (rd target size : ℕ) (regs : Regs) → slice_index (linked rd target size regs).x 0 ≡ slice_index regs.x 0
+unfolding going_on_at
+linked_zero rd target size regs = zero_kept rd (behind size regs) regs
 
-decoded_zero : (instr : Option Instr) (regs after : Regs) → step.of_instruction instr regs ≡ step.Outcome.Runs after → slice_index after.x 0 ≡ slice_index regs.x 0
-decoded_zero (Some instr) regs after same = runs_zero instr regs after same
-decoded_zero None regs after same = cc
+going_zero : (address : ℕ) (regs : Regs) → slice_index (going_on_at address regs).x 0 ≡ slice_index regs.x 0
+unfolding going_on_at
+going_zero address regs = refl
 
-code_zero : (code : Result ℕ ℕ) (regs after : Regs) → step.of_code code regs ≡ step.Outcome.Runs after → slice_index after.x 0 ≡ slice_index regs.x 0
-code_zero (Ok word) regs after same = decoded_zero (decoding word) regs after same
-code_zero (Err address) regs after same = cc
+regs_after_zero : (instr : Instr) (size : ℕ) (regs : Regs) → slice_index (regs_after instr size regs).x 0 ≡ slice_index regs.x 0
+unfolding regs_after
+regs_after_zero (Lui rd imm) size regs = put_zero rd _ size regs
+regs_after_zero (Auipc rd imm) size regs = put_zero rd _ size regs
+regs_after_zero (Jal rd imm) size regs = linked_zero rd _ size regs
+regs_after_zero (Jalr rd rs1 imm) size regs = linked_zero rd _ size regs
+regs_after_zero (Branch cmp rs1 rs2 imm) size regs = going_zero _ regs
+regs_after_zero (Load kind rd rs1 imm) size regs = refl
+regs_after_zero (Store width rs1 rs2 imm) size regs = refl
+regs_after_zero (OpImm op rd rs1 imm) size regs = put_zero rd _ size regs
+regs_after_zero (Op op rd rs1 rs2) size regs = put_zero rd _ size regs
+regs_after_zero (LoadReserved wide order rd rs1) size regs = refl
+regs_after_zero (StoreConditional wide order rd rs1 rs2) size regs = refl
+regs_after_zero (Amo op wide order rd rs1 rs2) size regs = refl
+regs_after_zero (Fence code rd rs1 imm) size regs = going_zero _ regs
+regs_after_zero Ecall size regs = refl
+regs_after_zero Ebreak size regs = refl
 
-instruction_zero : (regs : Regs) (memory : Range) (after : Regs) → step.instruction regs memory ≡ step.Outcome.Runs after → slice_index after.x 0 ≡ slice_index regs.x 0
+pure_zero : (instr : Instr) (size : ℕ) (regs after : Regs) (memory left : List Range) (held other : List Held) → step.Outcome.Runs (regs_after instr size regs) memory held ≡ step.Outcome.Runs after left other → slice_index after.x 0 ≡ slice_index regs.x 0
+pure_zero instr size regs after memory left held other same =
+    let equal : after ≡ regs_after instr size regs = cc in
+    rw equal (regs_after_zero instr size regs)
+
+unless_zero : (fault : Option PageFault) (regs made after : Regs) (memory left : List Range) (held other : List Held) → slice_index made.x 0 ≡ slice_index regs.x 0 → step.runs_unless fault (step.Outcome.Runs made memory held) ≡ step.Outcome.Runs after left other → slice_index after.x 0 ≡ slice_index regs.x 0
+unless_zero None regs made after memory left held other zero same =
+    let equal : after ≡ made = cc in
+    rw equal zero
+unless_zero (Some fault) regs made after memory left held other zero same = cc
+
+unless_word_zero : (fault : Option WordFault) (regs made after : Regs) (memory left : List Range) (held other : List Held) → slice_index made.x 0 ≡ slice_index regs.x 0 → step.runs_unless_word fault (step.Outcome.Runs made memory held) ≡ step.Outcome.Runs after left other → slice_index after.x 0 ≡ slice_index regs.x 0
+unless_word_zero None regs made after memory left held other zero same =
+    let equal : after ≡ made = cc in
+    rw equal zero
+unless_word_zero (Some fault) regs made after memory left held other zero same = cc
+
+runs_zero : (thread : ℕ) (instr : Instr) (size : ℕ) (regs after : Regs) (memory left : List Range) (held other : List Held) → step.executed thread instr size regs memory held ≡ step.Outcome.Runs after left other → slice_index after.x 0 ≡ slice_index regs.x 0
+unfolding step.executed step.loads step.stores step.reserves step.stores_conditionally step.combines
+runs_zero thread (Lui rd imm) size regs after memory left held other same = pure_zero (Lui rd imm) size regs after memory left held other same
+runs_zero thread (Auipc rd imm) size regs after memory left held other same = pure_zero (Auipc rd imm) size regs after memory left held other same
+runs_zero thread (Jal rd imm) size regs after memory left held other same = pure_zero (Jal rd imm) size regs after memory left held other same
+runs_zero thread (Jalr rd rs1 imm) size regs after memory left held other same = pure_zero (Jalr rd rs1 imm) size regs after memory left held other same
+runs_zero thread (Branch cmp rs1 rs2 imm) size regs after memory left held other same = pure_zero (Branch cmp rs1 rs2 imm) size regs after memory left held other same
+runs_zero thread (Load kind rd rs1 imm) size regs after memory left held other same = unless_zero _ regs _ after memory left held other (put_zero rd _ size regs) same
+runs_zero thread (Store width rs1 rs2 imm) size regs after memory left held other same = unless_zero _ regs _ after _ left _ other (going_zero _ regs) same
+runs_zero thread (OpImm op rd rs1 imm) size regs after memory left held other same = pure_zero (OpImm op rd rs1 imm) size regs after memory left held other same
+runs_zero thread (Op op rd rs1 rs2) size regs after memory left held other same = pure_zero (Op op rd rs1 rs2) size regs after memory left held other same
+runs_zero thread (LoadReserved wide order rd rs1) size regs after memory left held other same = unless_word_zero _ regs _ after _ left _ other (put_zero rd _ size regs) same
+runs_zero thread (StoreConditional wide order rd rs1 rs2) size regs after memory left held other same = unless_word_zero _ regs _ after _ left _ other (put_zero rd _ size regs) same
+runs_zero thread (Amo op wide order rd rs1 rs2) size regs after memory left held other same = unless_word_zero _ regs _ after _ left _ other (put_zero rd _ size regs) same
+runs_zero thread (Fence code rd rs1 imm) size regs after memory left held other same = pure_zero (Fence code rd rs1 imm) size regs after memory left held other same
+runs_zero thread Ecall size regs after memory left held other same = cc
+runs_zero thread Ebreak size regs after memory left held other same = cc
+
+found_zero : (thread : ℕ) (code : step.Found) (regs after : Regs) (memory left : List Range) (held other : List Held) → step.of_found thread code regs memory held ≡ step.Outcome.Runs after left other → slice_index after.x 0 ≡ slice_index regs.x 0
+found_zero thread (step.Found.Is instr size) regs after memory left held other same = runs_zero thread instr size regs after memory left held other same
+found_zero thread (step.Found.IsNot fault) regs after memory left held other same = cc
+
+instruction_zero : (thread : ℕ) (regs after : Regs) (memory left : List Range) (held other : List Held) → step.instruction thread regs memory held ≡ step.Outcome.Runs after left other → slice_index after.x 0 ≡ slice_index regs.x 0
 unfolding step.instruction
-instruction_zero regs memory after same = code_zero (step.code_at memory regs.pc) regs after same
+instruction_zero thread regs after memory left held other same = found_zero thread (step.found regs memory) regs after memory left held other same
 
-after_keeps : (outcome : step.Outcome) (machine : Machine) → step.instruction machine.regs machine.shared.memory ≡ outcome → Keeps machine → machine.place ≡ Loop → machine.flag ≡ false → Keeps (after outcome machine)
-after_keeps (step.Outcome.Runs regs) machine same keeps loop clear = record {
+-- whether an instruction is a call doesn't depend on the reservations
+
+executed_calls : (thread : ℕ) (instr : Instr) (size : ℕ) (regs : Regs) (memory : List Range) (held other : List Held) → step.executed thread instr size regs memory held ≡ step.Outcome.Calls → step.executed thread instr size regs memory other ≡ step.Outcome.Calls
+unfolding step.executed
+executed_calls thread instr size regs memory held other same = rw (calls_is_ecall thread instr size regs memory held same) refl
+
+found_calls : (thread : ℕ) (code : step.Found) (regs : Regs) (memory : List Range) (held other : List Held) → step.of_found thread code regs memory held ≡ step.Outcome.Calls → step.of_found thread code regs memory other ≡ step.Outcome.Calls
+found_calls thread (step.Found.Is instr size) regs memory held other same = executed_calls thread instr size regs memory held other same
+found_calls thread (step.Found.IsNot fault) regs memory held other same = cc
+
+instruction_calls : (thread : ℕ) (regs : Regs) (memory : List Range) (held other : List Held) → step.instruction thread regs memory held ≡ step.Outcome.Calls → step.instruction thread regs memory other ≡ step.Outcome.Calls
+unfolding step.instruction
+instruction_calls thread regs memory held other same = found_calls thread (step.found regs memory) regs memory held other same
+
+after_keeps : (outcome : step.Outcome) (machine : Machine) → instruction_of machine ≡ outcome → Keeps machine → machine.place ≡ Loop → machine.flag ≡ false → Keeps (after outcome machine)
+after_keeps (step.Outcome.Runs regs memory held) machine same keeps loop clear = record {
   noted_due = keeps.noted_due;
   flag_set = keeps.flag_set;
   window_clear = keeps.window_clear;
   at_call = λ apart. absurd (apart loop);
-  zero = instruction_zero machine.regs machine.shared.memory regs same ∙ keeps.zero;
+  zero = instruction_zero first_thread machine.regs regs machine.shared.memory memory machine.shared.held held same ∙ keeps.zero;
 }
 after_keeps step.Outcome.Calls machine same keeps loop clear = record {
   noted_due = keeps.noted_due;
@@ -214,7 +267,7 @@ after_keeps (step.Outcome.Faults fault) machine same keeps loop clear = record {
 execute_keeps : (machine : Machine) → Keeps machine → machine.place ≡ Loop → machine.flag ≡ false → Keeps (executed machine)
 unfolding executed
 execute_keeps machine keeps loop clear =
-    after_keeps (step.instruction machine.regs machine.shared.memory) machine refl keeps loop clear
+    after_keeps (instruction_of machine) machine refl keeps loop clear
 
 -- ---- calls
 
@@ -223,7 +276,7 @@ record Leaves (old new : Shared) : Type 0 where
   memory : new.memory ≡ old.memory
   pending : new.pending ≡ old.pending
 
-written_leaves : (bad : Option ℕ) (descriptor at count : ℕ) (shared : Shared) → Leaves shared (call.written bad descriptor at count shared).shared
+written_leaves : (bad : Option PageFault) (descriptor at count : ℕ) (shared : Shared) → Leaves shared (call.written bad descriptor at count shared).shared
 written_leaves (Some bad) descriptor at count shared = record { memory = refl; pending = refl }
 written_leaves None descriptor at count shared = record { memory = refl; pending = refl }
 
@@ -236,25 +289,31 @@ unfolding call.write
 write_leaves descriptor at wish shared =
     either_leaves _ _ _ shared (written_leaves _ descriptor at _ shared) (record { memory = refl; pending = refl })
 
+made_leaves : (regs : Regs) (shared : Shared) → Leaves shared (call.made regs shared).shared
+unfolding call.made
+made_leaves regs shared =
+    either_leaves _ _ _ shared (write_leaves _ _ _ shared)
+    (either_leaves _ _ _ shared (record { memory = refl; pending = refl }) (record { memory = refl; pending = refl }))
+
 called_leaves : (regs : Regs) (shared : Shared) → Leaves shared (call.called regs shared).shared
 unfolding call.called
 called_leaves regs shared =
-    either_leaves _ _ _ shared (write_leaves _ _ _ shared)
-    (either_leaves _ _ _ shared (record { memory = refl; pending = refl }) (record { memory = refl; pending = refl }))
+    let leaves = made_leaves regs shared in
+    record { memory = leaves.memory; pending = leaves.pending }
 
 after_call_keeps : (outcome : call.Outcome) (shared : Shared) (machine : Machine) → Leaves machine.shared shared → Keeps machine → machine.place ≡ Window → Keeps (after_call (record { shared = shared; outcome = outcome }) machine)
 after_call_keeps (call.Outcome.Answers answer) shared machine leaves keeps window = record {
   noted_due = rw leaves.pending keeps.noted_due;
   flag_set = keeps.flag_set;
   window_clear = λ same. cc;
-  at_call = λ apart. rw leaves.memory (keeps.at_call (λ loop. cc));
+  at_call = λ apart. rw leaves.memory (instruction_calls first_thread machine.regs machine.shared.memory machine.shared.held shared.held (keeps.at_call (λ loop. cc)));
   zero = keeps.zero;
 }
 after_call_keeps (call.Outcome.Ends end) shared machine leaves keeps window = record {
   noted_due = rw leaves.pending keeps.noted_due;
   flag_set = keeps.flag_set;
   window_clear = keeps.window_clear;
-  at_call = λ apart. rw leaves.memory (keeps.at_call apart);
+  at_call = λ apart. rw leaves.memory (instruction_calls first_thread machine.regs machine.shared.memory machine.shared.held shared.held (keeps.at_call apart));
   zero = keeps.zero;
 }
 

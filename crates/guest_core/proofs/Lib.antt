@@ -1,5 +1,5 @@
 pub mod Due
-pub mod Mapped
+pub mod EffectFacts
 pub mod Noted
 pub mod KeptFacts
 pub mod GrowthFacts

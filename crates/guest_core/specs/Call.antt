@@ -5,10 +5,13 @@ use Rattle.std.specs.Prelude.{ℕ, ◌%◌, ◌++◌, [], ◌==◌, nat_lt, min,
 use Rattle.std.specs.Int.{w64, cast_unsigned}
 use Rattle.guest_core.specs.declared.ends.End.{End}
 use Rattle.guest_core.specs.declared.ends.End.TheVariants.{Exit}
-use Rattle.guest_core.specs.declared.registers.Regs.{Regs}
-use Rattle.guest_core.specs.Memory.{first_bad, bytes_at}
-use Rattle.guest_core.specs.Registers.{register, with_register, after_four}
-use Rattle.guest_core.specs.Machine.{Shared}
+use Rattle.isa_exec.specs.declared.registers.Regs.{Regs}
+use Rattle.isa_exec.specs.Registers.{behind, going_on_at, register, with_register}
+use Rattle.guest_pages.specs.declared.fault.PageFault.{PageFault}
+use Rattle.guest_pages.specs.Faults.{first_fault, readable}
+use Rattle.guest_pages.specs.Operations.{bytes_at}
+use Rattle.word_memory.specs.Reservations.{reserving}
+use Rattle.guest_core.specs.Machine.{Shared, first_thread}
 
 -- an answer, or the end of the process
 pub data Outcome : Type 0 where
@@ -37,7 +40,7 @@ no_such_call = 38
 abbrev pub with_output : ℕ → List ℕ → List (List ℕ) → List (List ℕ)
 with_output device bytes outputs = slice_set outputs device (slice_index_or outputs device [] ++ bytes)
 
-abbrev pub written : Option ℕ → ℕ → ℕ → ℕ → Shared → Called
+abbrev pub written : Option PageFault → ℕ → ℕ → ℕ → Shared → Called
 written (Some bad) descriptor at count shared = refused bad_address shared
 written None descriptor at count shared = record {
   shared = record shared { outputs = with_output descriptor (bytes_at shared.memory at count) shared.outputs };
@@ -48,20 +51,30 @@ written None descriptor at count shared = record {
 unfoldable pub write : ℕ → ℕ → ℕ → Shared → Called
 write descriptor at wish shared =
     let count = min wish 1048576 in
-    if nat_lt descriptor (length shared.outputs) then written (first_bad shared.memory at count) descriptor at count shared else refused bad_descriptor shared
+    if nat_lt descriptor (length shared.outputs) then written (first_fault readable shared.memory at count) descriptor at count shared else refused bad_descriptor shared
 
 -- exit_group(2)
 abbrev pub exit_group : ℕ → Shared → Called
 exit_group code shared = record { shared = shared; outcome = Ends (Exit (code % 256)) }
 
 -- the call that the registers give
-unfoldable pub called : Regs → Shared → Called
-called regs shared =
+unfoldable pub made : Regs → Shared → Called
+made regs shared =
     if register regs 17 == 64 then write (register regs 10) (register regs 11) (register regs 12) shared else if register regs 17 == 94 then exit_group (register regs 10) shared else refused no_such_call shared
 
+-- a call ends the thread's reservation
+abbrev pub unreserved : Shared → Shared
+unreserved shared = record shared { held = reserving first_thread None shared.held }
+
+abbrev pub ending : Called → Called
+ending called = record { shared = unreserved called.shared; outcome = called.outcome }
+
+unfoldable pub called : Regs → Shared → Called
+called regs shared = ending (made regs shared)
+
 -- an answer stands in a0, and pc behind the ecall
-abbrev pub answered : ℤ → Regs → Regs
-answered answer regs = after_four (with_register 10 (cast_unsigned w64 answer) regs)
+unfoldable pub answered : ℤ → Regs → Regs
+answered answer regs = going_on_at (behind 4 regs) (with_register 10 (cast_unsigned w64 answer) regs)
 
 -- the device whose output a call lengthens, if it lengthens any
 unfoldable pub output_of_call : Regs → Shared → Option ℕ

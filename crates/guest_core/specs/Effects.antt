@@ -1,11 +1,33 @@
--- What the code's answer to an instruction says.
-use Rattle.guest_core.specs.declared.executing.Effect.{Effect}
-use Rattle.guest_core.specs.declared.executing.Effect.TheVariants.{Next, Call, Illegal}
-use Rattle.guest_core.specs.declared.registers.Regs.{Regs}
-use Rattle.guest_core.specs.Instruction.{Outcome, not_yet}
+-- What an effect asks for, carried out: the registers are those that the instruction left.
+-- Source: the same as of the instructions; that an instruction goes by its effect is the project's own.
+use Rattle.std.specs.Prelude.{ℕ, ◌<◌, List}
+use Rattle.isa_exec.specs.declared.effect.Effect.{Effect}
+use Rattle.isa_exec.specs.declared.effect.Effect.TheVariants.{Next, Jump, Load, Store, Reserve, Conditional, Amo, Call, Break}
+use Rattle.isa_exec.specs.declared.registers.Regs.{Regs}
+use Rattle.guest_pages.specs.Ranges.{Range}
+use Rattle.word_memory.specs.declared.reservations.Held.{Held}
+use Rattle.guest_core.specs.Instruction.{Outcome, breakpoint, combines, loads, reserves, stores, stores_conditionally}
 
--- an instruction that was done, with the registers after it, a call, or an instruction that is not carried out yet
-abbrev pub outcome : Effect → Regs → Outcome
-outcome Next regs = Outcome.Runs regs
-outcome Call regs = Outcome.Calls
-outcome Illegal regs = not_yet regs
+abbrev pub carried : ℕ → Effect → ℕ → Regs → List Range → List Held → Outcome
+carried thread Next size regs memory held = Outcome.Runs regs memory held
+carried thread Jump size regs memory held = Outcome.Runs regs memory held
+carried thread (Load rd kind at) size regs memory held = loads kind rd at size regs memory held
+carried thread (Store width at value) size regs memory held = stores thread width at value size regs memory held
+carried thread (Reserve rd wide at) size regs memory held = reserves thread wide rd at size regs memory held
+carried thread (Conditional rd wide at value) size regs memory held =
+    stores_conditionally thread wide rd at value size regs memory held
+carried thread (Amo rd op wide at value) size regs memory held = combines thread op wide rd at value size regs memory held
+carried thread Call size regs memory held = Outcome.Calls
+carried thread Break size regs memory held = Outcome.Faults (breakpoint regs.pc)
+
+-- the register that the effect fills is one
+abbrev pub HasRegister : Effect → Type 0
+HasRegister Next = Unit {0}
+HasRegister Jump = Unit {0}
+HasRegister (Load rd kind at) = rd < 32
+HasRegister (Store width at value) = Unit {0}
+HasRegister (Reserve rd wide at) = rd < 32
+HasRegister (Conditional rd wide at value) = rd < 32
+HasRegister (Amo rd op wide at value) = rd < 32
+HasRegister Call = Unit {0}
+HasRegister Break = Unit {0}

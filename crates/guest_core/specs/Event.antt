@@ -1,14 +1,10 @@
 -- Events of the emulator, and runs of them.
 -- The project's own: one event is one atomic step.
-use Rattle.std.specs.Prelude.{ℕ, ◌==◌, ◌&&◌, Bool, if◌then◌else◌, is_none, List, [], ◌∷◌, Option, Some, None}
+use Rattle.std.specs.Prelude.{◌==◌, ◌&&◌, Bool, if◌then◌else◌, is_none, List, [], ◌∷◌, Option, Some, None}
 use Rattle.guest_core.specs.declared.events.Event.{Event}
 use Rattle.guest_core.specs.declared.events.Event.TheVariants.{Step}
-use Rattle.guest_core.specs.Machine.{Machine}
+use Rattle.guest_core.specs.Machine.{Machine, first_thread}
 use Rattle.guest_core.specs.Rows.{ticked, stepped}
-
--- the one thread, which lives until the process ends
-abbrev pub first_thread : ℕ
-first_thread = 1000
 
 -- nothing is enabled after the end
 abbrev pub is_enabled : Machine → Event → Bool

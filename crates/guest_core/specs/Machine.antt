@@ -5,12 +5,15 @@ use Rattle.std.specs.Prelude.{ℕ, ◌+◌, ◌-◌, ◌^◌, min, Bool, List, O
 use Rattle.guest_core.specs.declared.ends.End.{End}
 use Rattle.guest_core.specs.declared.places.Place.{Place}
 use Rattle.guest_core.specs.declared.queue.Instance.{Instance}
-use Rattle.guest_core.specs.declared.registers.Regs.{Regs}
-use Rattle.guest_core.specs.Memory.{Range}
+use Rattle.isa_exec.specs.declared.registers.Regs.{Regs}
+use Rattle.guest_pages.specs.Ranges.{Range}
+use Rattle.word_memory.specs.declared.reservations.Held.{Held}
 
 -- what the system has beside its threads: also a Linux process has it, and calls change it
 pub record Shared : Type 0 where
-  pub memory : Range
+  pub memory : List Range
+  -- the reservations of threads
+  pub held : List Held
   -- what was written to each device
   pub outputs : List (List ℕ)
   -- the pending signals, in the order of their ids, and the next id
@@ -28,6 +31,10 @@ pub record Machine : Type 0 where
   -- the ids of the pending signals that the thread has noted
   pub noted : List ℕ
   pub end : Option End
+
+-- the one thread of a process
+abbrev pub first_thread : ℕ
+first_thread = 1000
 
 -- the pending signals that act on the thread next, in order. All are forced, so that none is blocked
 abbrev pub due : Shared → List Instance

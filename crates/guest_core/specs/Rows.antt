@@ -7,7 +7,7 @@ use Rattle.guest_core.specs.declared.queue.Instance.{Instance}
 use Rattle.guest_core.specs.Pending.{first_new, first_of, is_empty}
 use Rattle.guest_core.specs.Instruction as step
 use Rattle.guest_core.specs.Call as call
-use Rattle.guest_core.specs.Machine.{Machine, due, later}
+use Rattle.guest_core.specs.Machine.{Machine, due, first_thread, later}
 use Rattle.guest_core.specs.Signals.{forced, taken_out, end_of_taking}
 
 pub data Row : Type 0 where
@@ -70,12 +70,19 @@ unfoldable pub flag_cleared : Machine → Machine
 flag_cleared machine = record machine { flag = false }
 
 abbrev pub after : step.Outcome → Machine → Machine
-after (step.Outcome.Runs regs) machine = record machine { regs = regs }
+after (step.Outcome.Runs regs memory held) machine = record machine {
+  regs = regs;
+  shared = record machine.shared { memory = memory; held = held };
+}
 after step.Outcome.Calls machine = record machine { place = Start }
 after (step.Outcome.Faults fault) machine = record machine { shared = forced fault machine.shared }
 
+-- what the thread's instruction does
+abbrev pub instruction_of : Machine → step.Outcome
+instruction_of machine = step.instruction first_thread machine.regs machine.shared.memory machine.shared.held
+
 unfoldable pub executed : Machine → Machine
-executed machine = after (step.instruction machine.regs machine.shared.memory) machine
+executed machine = after (instruction_of machine) machine
 
 -- the check looks at the flag
 unfoldable pub checked : Machine → Machine
@@ -119,7 +126,7 @@ abbrev pub RowIsSteady : Row → Machine → Type 0
 RowIsSteady (Note instance) machine = Unit {0}
 RowIsSteady (Take instance) machine = Unit {0}
 RowIsSteady ClearFlag machine = Unit {0}
-RowIsSteady Execute machine = step.IsFaultless (step.instruction machine.regs machine.shared.memory)
+RowIsSteady Execute machine = step.IsFaultless (instruction_of machine)
 RowIsSteady Check machine = Unit {0}
 RowIsSteady Enter machine = ⊥
 RowIsSteady (Return answer) machine = Unit {0}

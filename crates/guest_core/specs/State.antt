@@ -6,6 +6,7 @@ use Rattle.guest_core.specs.Machine.{Shared, Machine}
 abbrev pub shared : Host → Shared
 shared host = record {
   memory = host.memory;
+  held = host.held;
   outputs = host.outputs;
   pending = host.pending.instances;
   next_id = host.pending.next_id;

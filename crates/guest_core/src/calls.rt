@@ -1,12 +1,17 @@
-ghost use Rattle.std.specs.Prelude.{◌≡◌, ◌<◌, length, IfOk, OnErr, MatchResult};
-ghost use Rattle.guest_core.specs.Call.{called, write, exit_group, refused, bad_address, bad_descriptor, no_such_call};
+ghost use Rattle.std.specs.Prelude.{◌≡◌, ◌<◌, ◌≤◌, length, None, IfOk, IfSome, IfNone, IsSome, OnErr, MatchResult};
+ghost use Rattle.guest_core.specs.Call.{called, made, write, exit_group, refused, bad_address, bad_descriptor, no_such_call};
+ghost use Rattle.guest_pages.specs.Faults.{first_fault, readable};
+ghost use Rattle.guest_pages.specs.Operations.{bytes_at};
 ghost use Rattle.guest_core.specs.State.{shared};
 ghost use Rattle.guest_core.specs.Outcomes.{call_of};
 
 use crate::ends::End;
-use crate::registers::Regs;
+use crate::machine::FIRST_THREAD;
 use crate::state::Host;
-use std::alloc::AllocError;
+use elf_file::Bytes;
+use guest_pages::{Pages, Rights};
+use isa_exec::Regs;
+use std::alloc::{AllocError, Global};
 
 /// The number of write(2).
 pub const WRITE: u64 = 64;
@@ -22,6 +27,12 @@ const ENOSYS: i64 = 38;
 /// The most bytes that a write moves.
 const MOST_BYTES: u64 = 1_048_576;
 
+const READABLE: Rights = Rights {
+    read: true,
+    write: false,
+    execute: false,
+};
+
 /// What a call came to.
 #[derive(Clone, Copy)]
 pub enum Outcome {
@@ -32,12 +43,23 @@ pub enum Outcome {
 }
 
 impl Host {
-    /// Makes the call that the registers give.
+    /// Makes the call that the registers give. It ends the thread's reservation.
     ///
     /// References: write(2), exit_group(2).
     #[tactic(auto, unfolding(crate::specs::Call::called))]
     pub fn call(&mut self, regs: &Regs) -> Result<Outcome, AllocError>
         ensures ok { IfOk result (λ outcome. call_of outcome self.new ≡ called regs.now (shared self.old)) }
+        ensures noted { self.new.pending.noted ≡ self.old.pending.noted }
+        ensures err { OnErr result (self.new ≡ self.old) }
+    {
+        let outcome = self.make(regs)?;
+        self.held.end(FIRST_THREAD);
+        Ok(outcome)
+    }
+
+    #[tactic(auto, unfolding(crate::specs::Call::made))]
+    fn make(&mut self, regs: &Regs) -> Result<Outcome, AllocError>
+        ensures ok { IfOk result (λ outcome. call_of outcome self.new ≡ made regs.now (shared self.old)) }
         ensures noted { self.new.pending.noted ≡ self.old.pending.noted }
         ensures err { OnErr result (self.new ≡ self.old) }
     {
@@ -62,12 +84,34 @@ impl Host {
             return Ok(-EBADF);
         }
         let count = wish.min(MOST_BYTES);
-        match self.memory.bytes_at(at, count) {
-            Ok(bytes) => {
-                self.outputs.write(descriptor as usize, bytes)?;
+        match read_bytes(self.outputs.alloc(), &self.memory, at, count)? {
+            Some(bytes) => {
+                self.outputs.write(descriptor as usize, bytes.as_slice())?;
                 Ok(count as i64)
             }
-            Err(_) => Ok(-EFAULT),
+            None => Ok(-EFAULT),
         }
+    }
+}
+
+/// The bytes of a range, none where it can't be read whole. It takes memory for them.
+pub fn read_bytes(
+    alloc: Global,
+    memory: &Pages,
+    at: u64,
+    count: u64,
+) -> Result<Option<Bytes>, AllocError>
+    requires { count ≤ 1048576 }
+    ensures some { IfOk result (λ read. IfSome read (λ bytes. (first_fault readable memory.now at count ≡ None) × (bytes ≡ bytes_at memory.now at count))) }
+    ensures none { IfOk result (λ read. IfNone read (IsSome (first_fault readable memory.now at count))) }
+{
+    if memory.allows(at, count, READABLE).is_err() {
+        return Ok(None);
+    }
+    let mut bytes = Vec::new(alloc);
+    bytes.resize(count as usize, 0)?;
+    match memory.copy_out(at, bytes.as_mut_slice()) {
+        Ok(()) => Ok(Some(Bytes::from_vec(bytes))),
+        Err(_) => Ok(None),
     }
 }

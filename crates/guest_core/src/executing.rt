@@ -1,49 +1,492 @@
-ghost use Rattle.std.specs.Prelude.{◌≡◌};
+//! One instruction, found at pc, made, and its effect carried out.
+
+ghost use Rattle.std.specs.Prelude.{◌≡◌, ◌⊎◌, ◌+◌, ◌*◌, ◌<◌, ◌^◌, ℕ, List, IfOk, IfErr, OnOk, OnErr, true, Ok, Err, MatchResult};
+ghost use Rattle.isa_compressed.specs.Expansion.{expansion};
+ghost use Rattle.isa_decode.specs.Listing.{decoding};
 ghost use Rattle.isa_decode.specs.Ranges.{InRange};
-ghost use Rattle.guest_core.specs.Instruction.{executed};
-ghost use Rattle.guest_core.specs.Effects.{outcome};
+ghost use Rattle.guest_core.specs.Instruction.{Found, Outcome, executed, is_or_illegal, combines, reserves, stores, stores_conditionally, breakpoint as breakpoint_at, fault_of_word as word_fault_of, found, half_at as half_word_at, illegal as illegal_at, instruction, load_size, loaded, loads, page_fault as page_fault_of, store_size};
+ghost use Rattle.isa_exec.specs.Execution.{put};
+ghost use Rattle.guest_pages.specs.Sizes.{size_of as bytes_of};
+ghost use Rattle.word_memory.specs.declared.reservations.Held.{Held};
+ghost use Rattle.guest_core.specs.Effects.{carried, HasRegister};
+ghost use Rattle.guest_core.specs.Made.{outcome};
 
-use crate::registers::Regs;
-use isa_decode::{AluOp, ImmOp, Instr};
+use crate::queue::Fault;
+use crate::signal::SigNo;
+use guest_pages::{PageFault, Pages};
+use isa_compressed::expand;
+use isa_decode::{AmoOp, Instr, LoadKind, Width, decode};
+use isa_exec::{Effect, Regs, exec};
+use word_memory::{Reservations, WordFault, amo, load_reserved, store_conditional};
 
-/// What an instruction asks for, beside its change of the registers.
+/// What an instruction came to.
 #[derive(Clone, Copy)]
-pub enum Effect {
-    Next,
+pub enum Made {
+    /// It was made.
+    Done,
+    /// It asks for a call of the system, and nothing has changed.
     Call,
-    /// The instruction isn't carried out yet.
-    Illegal,
 }
 
-/// Makes an instruction. After `Next` the registers are final, otherwise they are unchanged. It takes no memory.
-///
-/// References: the RISC-V unprivileged manual, "RV64I Base Integer Instruction Set".
-#[inline]
-#[tactic(auto, unfolding(crate::specs::Instruction::executed))]
-pub fn execute(instr: &Instr, regs: &mut Regs) -> Effect
-    requires { InRange instr.now }
-    ensures effect { executed instr.now regs.old ≡ outcome result regs.new }
-    ensures call { result ≡ Effect.Call → regs.new ≡ regs.old }
-    ensures illegal { result ≡ Effect.Illegal → regs.new ≡ regs.old }
+/// The fault of a word that is no instruction.
+fn illegal(pc: u64) -> Fault
+    ensures { result ≡ illegal_at pc }
 {
-    let (rd, value) = match *instr {
-        Instr::Lui { rd, imm } => (rd, imm.cast_unsigned()),
-        Instr::OpImm {
-            op: ImmOp::Addi,
-            rd,
-            rs1,
-            imm,
-        } => (rd, regs.register(rs1).wrapping_add(imm.cast_unsigned())),
-        Instr::Op {
-            op: AluOp::Add,
-            rd,
-            rs1,
-            rs2,
-        } => (rd, regs.register(rs1).wrapping_add(regs.register(rs2))),
-        Instr::Ecall => return Effect::Call,
-        _ => return Effect::Illegal,
+    Fault {
+        signal: SigNo::illegal_instruction(),
+        code: 1,
+        address: pc,
+    }
+}
+
+/// The fault of a stop for a debugger.
+fn breakpoint(pc: u64) -> Fault
+    ensures { result ≡ breakpoint_at pc }
+{
+    Fault {
+        signal: SigNo::trap(),
+        code: 1,
+        address: pc,
+    }
+}
+
+/// The fault of an access to memory.
+fn page_fault(fault: PageFault) -> Fault
+    ensures { result ≡ page_fault_of fault }
+{
+    let signal = SigNo::segmentation_fault();
+    match fault {
+        PageFault::NotMapped(address) => Fault {
+            signal,
+            code: 1,
+            address,
+        },
+        PageFault::NoAccess(address) => Fault {
+            signal,
+            code: 2,
+            address,
+        },
+    }
+}
+
+/// The fault of an atomic access to memory.
+fn fault_of_word(fault: WordFault) -> Fault
+    ensures { result ≡ word_fault_of fault }
+{
+    match fault {
+        WordFault::Misaligned(address) => Fault {
+            signal: SigNo::bus_error(),
+            code: 1,
+            address,
+        },
+        WordFault::Page(fault) => page_fault(fault),
+    }
+}
+
+/// The instruction at pc, with its number of bytes.
+///
+/// References: the RISC-V unprivileged manual, "Base Instruction-Length Encoding".
+#[inline]
+#[tactic(auto, unfolding(crate::specs::Instruction::found))]
+fn find(regs: &Regs, memory: &Pages) -> Result<(Instr, u64), Fault>
+    ensures found { MatchResult result
+        (λ of. found regs.now memory.now ≡ Found.Is of.0 of.1)
+        (λ fault. found regs.now memory.now ≡ Found.IsNot fault) }
+    ensures range { IfOk result (λ of. InRange of.0) }
+    ensures size { IfOk result (λ of. (of.1 ≡ 2) ⊎ (of.1 ≡ 4)) }
+{
+    match memory.fetch_pair(regs.pc) {
+        Some((low, high)) => {
+            if low % 4 == 3 {
+                return of_word(regs.pc, low, high);
+            }
+            of_half(regs.pc, low)
+        }
+        None => find_apart(regs, memory),
+    }
+}
+
+/// The same where the code at pc doesn't lie in one page, or can't be executed.
+#[cold]
+#[inline(never)]
+#[tactic(auto, unfolding(crate::specs::Instruction::found))]
+fn find_apart(regs: &Regs, memory: &Pages) -> Result<(Instr, u64), Fault>
+    ensures found { MatchResult result
+        (λ of. found regs.now memory.now ≡ Found.Is of.0 of.1)
+        (λ fault. found regs.now memory.now ≡ Found.IsNot fault) }
+    ensures range { IfOk result (λ of. InRange of.0) }
+    ensures size { IfOk result (λ of. (of.1 ≡ 2) ⊎ (of.1 ≡ 4)) }
+{
+    let low = match memory.fetch(regs.pc) {
+        Ok(low) => low,
+        Err(fault) => return Err(page_fault(fault)),
     };
+    if low % 4 != 3 {
+        return of_half(regs.pc, low);
+    }
+    match memory.fetch(regs.behind(2)) {
+        Ok(high) => of_word(regs.pc, low, high),
+        Err(fault) => Err(page_fault(fault)),
+    }
+}
+
+/// The instruction of a half word.
+#[inline]
+fn of_half(pc: u64, half: u16) -> Result<(Instr, u64), Fault>
+    ensures found { MatchResult result
+        (λ of. is_or_illegal pc 2 (expansion half) ≡ Found.Is of.0 of.1)
+        (λ fault. is_or_illegal pc 2 (expansion half) ≡ Found.IsNot fault) }
+    ensures range { IfOk result (λ of. InRange of.0) }
+    ensures size { IfOk result (λ of. of.1 ≡ 2) }
+{
+    match expand(half) {
+        Some(instr) => Ok((instr, 2)),
+        None => Err(illegal(pc)),
+    }
+}
+
+/// The instruction of a word of two half words.
+#[inline]
+fn of_word(pc: u64, low: u16, high: u16) -> Result<(Instr, u64), Fault>
+    ensures found { MatchResult result
+        (λ of. is_or_illegal pc 4 (decoding (low + 2 ^ 16 * high)) ≡ Found.Is of.0 of.1)
+        (λ fault. is_or_illegal pc 4 (decoding (low + 2 ^ 16 * high)) ≡ Found.IsNot fault) }
+    ensures range { IfOk result (λ of. InRange of.0) }
+    ensures size { IfOk result (λ of. of.1 ≡ 4) }
+{
+    match decode(u32::from(high) * 0x1_0000 + u32::from(low)) {
+        Some(instr) => Ok((instr, 4)),
+        None => Err(illegal(pc)),
+    }
+}
+
+/// How wide a load is.
+#[inline]
+fn width_of_load(kind: LoadKind) -> guest_pages::Width
+    ensures { bytes_of result ≡ load_size kind }
+{
+    match kind {
+        LoadKind::Lb => guest_pages::Width::One,
+        LoadKind::Lh => guest_pages::Width::Two,
+        LoadKind::Lw => guest_pages::Width::Four,
+        LoadKind::Ld => guest_pages::Width::Eight,
+        LoadKind::Lbu => guest_pages::Width::One,
+        LoadKind::Lhu => guest_pages::Width::Two,
+        LoadKind::Lwu => guest_pages::Width::Four,
+    }
+}
+
+/// How wide a store is.
+#[inline]
+fn width_of_store(width: Width) -> guest_pages::Width
+    ensures { bytes_of result ≡ store_size width }
+{
+    match width {
+        Width::One => guest_pages::Width::One,
+        Width::Two => guest_pages::Width::Two,
+        Width::Four => guest_pages::Width::Four,
+        Width::Eight => guest_pages::Width::Eight,
+    }
+}
+
+#[inline]
+fn signed_byte(value: u64) -> u64
+    ensures { result ≡ loaded LoadKind.Lb value }
+{
+    i64::from(((value % 0x100) as u8).cast_signed()).cast_unsigned()
+}
+
+#[inline]
+fn signed_half(value: u64) -> u64
+    ensures { result ≡ loaded LoadKind.Lh value }
+{
+    i64::from(((value % 0x1_0000) as u16).cast_signed()).cast_unsigned()
+}
+
+#[inline]
+fn signed_word(value: u64) -> u64
+    ensures { result ≡ loaded LoadKind.Lw value }
+{
+    i64::from(((value % 0x1_0000_0000) as u32).cast_signed()).cast_unsigned()
+}
+
+/// What a register holds of a number that was loaded.
+#[inline]
+fn fill(kind: LoadKind, value: u64) -> u64
+    ensures { result ≡ loaded kind value }
+{
+    match kind {
+        LoadKind::Lb => signed_byte(value),
+        LoadKind::Lh => signed_half(value),
+        LoadKind::Lw => signed_word(value),
+        LoadKind::Ld => value,
+        LoadKind::Lbu => value,
+        LoadKind::Lhu => value,
+        LoadKind::Lwu => value,
+    }
+}
+
+/// The value goes into `rd`, and the program goes on behind the instruction.
+#[inline]
+fn put(regs: &mut Regs, rd: u8, value: u64, size: u64)
+    requires { rd < 32 }
+    ensures { regs.new ≡ put rd value size regs.old }
+{
+    let next = regs.behind(size);
     regs.set_register(rd, value);
-    regs.pass_four();
-    Effect::Next
+    regs.go_on_at(next);
+}
+
+#[inline]
+#[tactic(auto, unfolding(crate::specs::Instruction::loads))]
+fn load(
+    kind: LoadKind,
+    rd: u8,
+    at: u64,
+    size: u64,
+    regs: &mut Regs,
+    memory: &Pages,
+) -> Result<(), Fault>
+    requires { rd < 32 }
+    ensures made { (held : List Held) → MatchResult result
+        (λ _. loads kind rd at size regs.old memory.now held ≡ Outcome.Runs regs.new memory.now held)
+        (λ fault. loads kind rd at size regs.old memory.now held ≡ Outcome.Faults fault) }
+    ensures err { OnErr result (regs.new ≡ regs.old) }
+{
+    match memory.load(at, width_of_load(kind)) {
+        Ok(value) => {
+            put(regs, rd, fill(kind, value), size);
+            Ok(())
+        }
+        Err(fault) => Err(page_fault(fault)),
+    }
+}
+
+#[inline]
+#[tactic(auto, unfolding(crate::specs::Instruction::stores))]
+fn store(
+    thread: u32,
+    width: Width,
+    at: u64,
+    value: u64,
+    size: u64,
+    regs: &mut Regs,
+    memory: &mut Pages,
+    held: &mut Reservations,
+) -> Result<(), Fault>
+    ensures made { OnOk result (stores thread width at value size regs.old memory.old held.old ≡ Outcome.Runs regs.new memory.new held.new) }
+    ensures fault { IfErr result (λ fault. stores thread width at value size regs.old memory.old held.old ≡ Outcome.Faults fault) }
+    ensures err { OnErr result ((regs.new ≡ regs.old) × (memory.new ≡ memory.old) × (held.new ≡ held.old)) }
+{
+    let wide = width_of_store(width);
+    match memory.store(at, wide, value) {
+        Ok(()) => {
+            held.stored(thread, at, wide.size() as u64);
+            let next = regs.behind(size);
+            regs.go_on_at(next);
+            Ok(())
+        }
+        Err(fault) => Err(page_fault(fault)),
+    }
+}
+
+#[inline]
+#[tactic(auto, unfolding(crate::specs::Instruction::reserves))]
+fn reserve(
+    thread: u32,
+    wide: bool,
+    rd: u8,
+    at: u64,
+    size: u64,
+    regs: &mut Regs,
+    memory: &Pages,
+    held: &mut Reservations,
+) -> Result<(), Fault>
+    requires { rd < 32 }
+    ensures made { OnOk result (reserves thread wide rd at size regs.old memory.now held.old ≡ Outcome.Runs regs.new memory.now held.new) }
+    ensures fault { IfErr result (λ fault. reserves thread wide rd at size regs.old memory.now held.old ≡ Outcome.Faults fault) }
+    ensures err { OnErr result ((regs.new ≡ regs.old) × (held.new ≡ held.old)) }
+{
+    match load_reserved(memory, held, thread, at, wide) {
+        Ok(value) => {
+            put(regs, rd, value, size);
+            Ok(())
+        }
+        Err(fault) => Err(fault_of_word(fault)),
+    }
+}
+
+#[inline]
+#[tactic(auto, unfolding(crate::specs::Instruction::stores_conditionally))]
+fn store_if_reserved(
+    thread: u32,
+    wide: bool,
+    rd: u8,
+    at: u64,
+    value: u64,
+    size: u64,
+    regs: &mut Regs,
+    memory: &mut Pages,
+    held: &mut Reservations,
+) -> Result<(), Fault>
+    requires { rd < 32 }
+    ensures made { OnOk result (stores_conditionally thread wide rd at value size regs.old memory.old held.old ≡ Outcome.Runs regs.new memory.new held.new) }
+    ensures fault { IfErr result (λ fault. stores_conditionally thread wide rd at value size regs.old memory.old held.old ≡ Outcome.Faults fault) }
+    ensures err { OnErr result ((regs.new ≡ regs.old) × (memory.new ≡ memory.old) × (held.new ≡ held.old)) }
+{
+    match store_conditional(memory, held, thread, at, wide, value) {
+        Ok(stored) => {
+            put(regs, rd, u64::from(!stored), size);
+            Ok(())
+        }
+        Err(fault) => Err(fault_of_word(fault)),
+    }
+}
+
+#[inline]
+#[tactic(auto, unfolding(crate::specs::Instruction::combines))]
+fn combine(
+    thread: u32,
+    op: AmoOp,
+    wide: bool,
+    rd: u8,
+    at: u64,
+    value: u64,
+    size: u64,
+    regs: &mut Regs,
+    memory: &mut Pages,
+    held: &mut Reservations,
+) -> Result<(), Fault>
+    requires { rd < 32 }
+    ensures made { OnOk result (combines thread op wide rd at value size regs.old memory.old held.old ≡ Outcome.Runs regs.new memory.new held.new) }
+    ensures fault { IfErr result (λ fault. combines thread op wide rd at value size regs.old memory.old held.old ≡ Outcome.Faults fault) }
+    ensures err { OnErr result ((regs.new ≡ regs.old) × (memory.new ≡ memory.old) × (held.new ≡ held.old)) }
+{
+    match amo(memory, held, thread, at, op, wide, value) {
+        Ok(old) => {
+            put(regs, rd, old, size);
+            Ok(())
+        }
+        Err(fault) => Err(fault_of_word(fault)),
+    }
+}
+
+/// Carries out what an instruction of `size` bytes asks for.
+#[inline]
+fn carry_out(
+    thread: u32,
+    effect: &Effect,
+    size: u64,
+    regs: &mut Regs,
+    memory: &mut Pages,
+    held: &mut Reservations,
+) -> Result<Made, Fault>
+    requires { HasRegister effect.now }
+    ensures made { IfOk result (λ made. carried thread effect.now size regs.old memory.old held.old ≡ outcome made regs.new memory.new held.new) }
+    ensures call { result ≡ Ok Made.Call → (regs.new ≡ regs.old) × (memory.new ≡ memory.old) × (held.new ≡ held.old) }
+    ensures fault { IfErr result (λ fault. carried thread effect.now size regs.old memory.old held.old ≡ Outcome.Faults fault) }
+    ensures err { OnErr result ((regs.new ≡ regs.old) × (memory.new ≡ memory.old) × (held.new ≡ held.old)) }
+{
+    match *effect {
+        Effect::Next => Ok(Made::Done),
+        Effect::Jump => Ok(Made::Done),
+        Effect::Load { rd, kind, at } => match load(kind, rd, at, size, regs, memory) {
+            Ok(()) => Ok(Made::Done),
+            Err(fault) => Err(fault),
+        },
+        Effect::Store { width, at, value } => {
+            match store(thread, width, at, value, size, regs, memory, held) {
+                Ok(()) => Ok(Made::Done),
+                Err(fault) => Err(fault),
+            }
+        }
+        Effect::Reserve { rd, wide, at } => {
+            match reserve(thread, wide, rd, at, size, regs, memory, held) {
+                Ok(()) => Ok(Made::Done),
+                Err(fault) => Err(fault),
+            }
+        }
+        Effect::Conditional {
+            rd,
+            wide,
+            at,
+            value,
+        } => {
+            match store_if_reserved(thread, wide, rd, at, value, size, regs, memory, held) {
+                Ok(()) => Ok(Made::Done),
+                Err(fault) => Err(fault),
+            }
+        }
+        Effect::Amo {
+            rd,
+            op,
+            wide,
+            at,
+            value,
+        } => {
+            match combine(thread, op, wide, rd, at, value, size, regs, memory, held) {
+                Ok(()) => Ok(Made::Done),
+                Err(fault) => Err(fault),
+            }
+        }
+        Effect::Call => Ok(Made::Call),
+        Effect::Break => Err(breakpoint(regs.pc)),
+    }
+}
+
+/// Makes an instruction of `size` bytes.
+#[inline]
+#[tactic(auto, using(crate::proofs::EffectFacts::in_range_has_register, crate::proofs::EffectFacts::carried_is_row, crate::proofs::EffectFacts::fault_keeps_regs, crate::proofs::EffectFacts::call_keeps_regs))]
+fn make(
+    thread: u32,
+    instr: &Instr,
+    size: u64,
+    regs: &mut Regs,
+    memory: &mut Pages,
+    held: &mut Reservations,
+) -> Result<Made, Fault>
+    requires range { InRange instr.now }
+    requires size { (size ≡ 2) ⊎ (size ≡ 4) }
+    ensures made { IfOk result (λ made. executed thread instr.now size regs.old memory.old held.old ≡ outcome made regs.new memory.new held.new) }
+    ensures call { result ≡ Ok Made.Call → (regs.new ≡ regs.old) × (memory.new ≡ memory.old) × (held.new ≡ held.old) }
+    ensures fault { IfErr result (λ fault. executed thread instr.now size regs.old memory.old held.old ≡ Outcome.Faults fault) }
+    ensures err { OnErr result ((regs.new ≡ regs.old) × (memory.new ≡ memory.old) × (held.new ≡ held.old)) }
+{
+    let effect = exec(instr, size, regs);
+    carry_out(thread, &effect, size, regs, memory, held)
+}
+
+/// Makes the thread's instruction at pc. After a call or a fault all is as it was. It takes no memory, and constant time,
+/// but for the reservations of threads, which a store goes through.
+///
+/// References: the RISC-V unprivileged manual, "RV64I", "M", "A", "C" and "Zifencei".
+#[inline]
+#[tactic(auto, unfolding(crate::specs::Instruction::instruction))]
+pub fn make_instruction(
+    thread: u32,
+    regs: &mut Regs,
+    memory: &mut Pages,
+    held: &mut Reservations,
+) -> Result<Made, Fault>
+    ensures made { IfOk result (λ made. instruction thread regs.old memory.old held.old ≡ outcome made regs.new memory.new held.new) }
+    ensures call { result ≡ Ok Made.Call → (regs.new ≡ regs.old) × (memory.new ≡ memory.old) × (held.new ≡ held.old) }
+    ensures fault { IfErr result (λ fault. instruction thread regs.old memory.old held.old ≡ Outcome.Faults fault) }
+    ensures err { OnErr result ((regs.new ≡ regs.old) × (memory.new ≡ memory.old) × (held.new ≡ held.old)) }
+{
+    match find(regs, memory) {
+        Ok((instr, size)) => make(thread, &instr, size, regs, memory, held),
+        Err(fault) => Err(fault),
+    }
+}
+
+/// Whether the instruction at pc asks for a call of the system. It takes no memory.
+#[tactic(auto, using(crate::proofs::EffectFacts::calls_is_ecall), unfolding(crate::specs::Instruction::instruction, crate::specs::Instruction::executed))]
+pub fn is_at_call(regs: &Regs, memory: &Pages) -> bool
+    ensures yes { result ≡ true → (thread : ℕ) (held : List Held) → instruction thread regs.now memory.now held ≡ Outcome.Calls }
+    ensures no { (thread : ℕ) (held : List Held) → instruction thread regs.now memory.now held ≡ Outcome.Calls → result ≡ true }
+{
+    match find(regs, memory) {
+        Ok((Instr::Ecall, _)) => true,
+        _ => false,
+    }
 }

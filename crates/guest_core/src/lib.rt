@@ -46,22 +46,19 @@ mod machine;
 mod output;
 mod places;
 mod queue;
-mod registers;
 mod rows;
-mod segment;
 mod signal;
 mod starting;
 mod state;
 
+pub use calls::read_bytes;
 pub use ends::End;
 pub use events::Event;
-pub use executing::{Effect, execute};
+pub use executing::{Made, is_at_call, make_instruction};
 pub use machine::{Core, CoreParts, CoreRefusal, FIRST_THREAD};
 pub use output::Outputs;
 pub use places::Place;
 pub use queue::{Fault, Instance};
-pub use registers::Regs;
-pub use segment::Memory;
 pub use signal::SigNo;
 pub use starting::{StartFault, start};
 

@@ -9,10 +9,11 @@ use crate::ends::End;
 use crate::events::Event;
 use crate::output::Outputs;
 use crate::places::Place;
-use crate::registers::Regs;
-use crate::segment::Memory;
 use crate::state::{Host, State};
+use guest_pages::Pages;
+use isa_exec::Regs;
 use std::marker::Model;
+use word_memory::Reservations;
 
 /// The one thread of a process.
 pub const FIRST_THREAD: u32 = 1000;
@@ -29,7 +30,8 @@ pub enum CoreRefusal {
 /// What a core is made of, beside what is pending.
 #[derive(Drop)]
 pub struct CoreParts {
-    pub memory: Memory,
+    pub memory: Pages,
+    pub held: Reservations,
     pub outputs: Outputs,
     pub regs: Regs,
 }
@@ -148,6 +150,7 @@ impl Core {
     /// The memory, the outputs and the registers.
     pub fn into_parts(self) -> CoreParts
         ensures memory { result.memory ≡ self.shared.memory }
+        ensures held { result.held ≡ self.shared.held }
         ensures outputs { result.outputs ≡ self.shared.outputs }
         ensures regs { result.regs ≡ self.regs }
     {
@@ -155,6 +158,7 @@ impl Core {
         let State {
             host: Host {
                 memory,
+                held,
                 outputs,
                 ..
             },
@@ -163,6 +167,7 @@ impl Core {
         } = state;
         CoreParts {
             memory,
+            held,
             outputs,
             regs,
         }

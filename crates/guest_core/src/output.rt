@@ -30,6 +30,11 @@ impl Outputs {
         Ok(Outputs { devices })
     }
 
+    /// The allocator of what was written.
+    pub fn alloc(&self) -> Global {
+        *self.devices.allocator()
+    }
+
     /// The number of devices.
     pub fn len(&self) -> usize
         ensures { result ≡ length self.now }

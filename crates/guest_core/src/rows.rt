@@ -2,18 +2,17 @@
 
 ghost use Rattle.std.specs.Prelude.{◌≡◌, ◌≢◌, ◌+◌, ◌<◌, ◌^◌, [], false, Some, None, OnOk, OnErr, IsOk};
 ghost use Rattle.guest_core.specs.Pending.{first_new, first_of};
-ghost use Rattle.guest_core.specs.Rows.{noted, taken, flag_cleared, executed, checked, entered, returned, done, flagged_row, stepped, ticked, IsSteady};
+ghost use Rattle.guest_core.specs.Rows.{noted, taken, flag_cleared, executed, checked, entered, returned, done, flagged_row, stepped, ticked, instruction_of, IsSteady};
 ghost use Rattle.guest_core.specs.State.{machine};
-ghost use Rattle.guest_core.specs.Instruction.{instruction, IsFaultless, illegal as illegal_at, unmapped as unmapped_at};
+ghost use Rattle.guest_core.specs.Instruction.{IsFaultless};
 
 use crate::calls::Outcome;
 use crate::ends::End;
-use crate::executing::{Effect, execute};
+use crate::executing::{Made, make_instruction};
+use crate::machine::FIRST_THREAD;
 use crate::places::Place;
 use crate::queue::{Fault, Instance};
-use crate::signal::SigNo;
 use crate::state::State;
-use isa_decode::decode;
 use std::alloc::AllocError;
 
 impl State {
@@ -63,37 +62,37 @@ impl State {
     }
 
     /// The call's answer reaches the registers.
-    #[tactic(auto, unfolding(crate::specs::Rows::returned))]
+    #[tactic(auto, unfolding(crate::specs::Rows::returned, crate::specs::Call::answered))]
     fn finish(&mut self, answer: i64)
         ensures { machine self.new ≡ returned answer (machine self.old) }
     {
+        let next = self.regs.behind(4);
         self.regs.set_register(10, answer.cast_unsigned());
-        self.regs.pass_four();
+        self.regs.go_on_at(next);
         self.place = Place::Loop;
     }
 
     /// An instruction is made, or its fault is sent. Only a fault may want memory.
-    #[tactic(auto, unfolding(crate::specs::Rows::executed, crate::specs::Instruction::instruction))]
+    #[tactic(auto, unfolding(crate::specs::Rows::executed))]
     fn execute(&mut self) -> Result<(), AllocError>
         requires { self.old.host.pending.instances ≡ [] }
         ensures ok { OnOk result (machine self.new ≡ executed (machine self.old)) }
         ensures err { OnErr result (machine self.new ≡ machine self.old) }
-        ensures steady { IsFaultless (instruction self.old.regs self.old.host.memory) → IsOk result }
+        ensures steady { IsFaultless (instruction_of (machine self.old)) → IsOk result }
     {
-        let pc = self.regs.pc;
-        let word = match self.host.memory.code_at(pc) {
-            Ok(word) => word,
-            Err(address) => return self.host.pending.send_forced(unmapped(address)),
-        };
-        let Some(instr) = decode(word) else {
-            return self.host.pending.send_forced(illegal(pc));
-        };
-        match execute(&instr, &mut self.regs) {
-            Effect::Next => {}
-            Effect::Call => self.place = Place::Start,
-            Effect::Illegal => return self.host.pending.send_forced(illegal(pc)),
+        match make_instruction(
+            FIRST_THREAD,
+            &mut self.regs,
+            &mut self.host.memory,
+            &mut self.host.held,
+        ) {
+            Ok(Made::Done) => Ok(()),
+            Ok(Made::Call) => {
+                self.place = Place::Start;
+                Ok(())
+            }
+            Err(fault) => self.host.pending.send_forced(fault),
         }
-        Ok(())
     }
 
     /// The host is entered.
@@ -173,27 +172,5 @@ impl State {
             self.host.clock = clock;
         }
         done
-    }
-}
-
-/// The fault of a word that is no instruction.
-fn illegal(pc: u64) -> Fault
-    ensures { result ≡ illegal_at pc }
-{
-    Fault {
-        signal: SigNo::illegal_instruction(),
-        code: 1,
-        address: pc,
-    }
-}
-
-/// The fault of a fetch that is not mapped.
-fn unmapped(address: u64) -> Fault
-    ensures { result ≡ unmapped_at address }
-{
-    Fault {
-        signal: SigNo::segmentation_fault(),
-        code: 1,
-        address,
     }
 }

@@ -39,6 +39,24 @@ impl SigNo {
         SigNo { number: 11 }
     }
 
+    /// The signal of a stop for a debugger.
+    ///
+    /// References: signal(7).
+    pub fn trap() -> SigNo
+        ensures { result ≡ 5 }
+    {
+        SigNo { number: 5 }
+    }
+
+    /// The signal of a bus error.
+    ///
+    /// References: signal(7).
+    pub fn bus_error() -> SigNo
+        ensures { result ≡ 7 }
+    {
+        SigNo { number: 7 }
+    }
+
     pub fn number(self) -> u8
         ensures value { result ≡ self }
         ensures least { 1 ≤ self }

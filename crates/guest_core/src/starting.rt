@@ -3,21 +3,34 @@ ghost use Rattle.elf_file.specs.Reading.{image, segment_image};
 ghost use Rattle.guest_core.specs.Start.{started, loaded, page_count, Starts};
 ghost use Rattle.guest_core.specs.State.{machine};
 
-use crate::machine::Core;
+use crate::machine::{Core, FIRST_THREAD};
 use crate::output::Outputs;
 use crate::places::Place;
 use crate::queue::Pending;
-use crate::registers::Regs;
-use crate::segment::Memory;
 use crate::state::{Host, State};
-use elf_file::{Bytes, Elf, Segment};
+use elf_file::{Elf, Segment};
+use guest_pages::{Pages, Rights};
+use isa_exec::Regs;
 use std::alloc::{AllocError, Global};
+use word_memory::Reservations;
 
 /// The bytes of a page.
 const PAGE: u64 = 4096;
 
 /// The most pages that a program has.
 const MOST_PAGES: u64 = 65536;
+
+const BEING_LOADED: Rights = Rights {
+    read: true,
+    write: true,
+    execute: false,
+};
+
+const RUNNABLE: Rights = Rights {
+    read: true,
+    write: false,
+    execute: true,
+};
 
 /// Why no start was made.
 #[derive(Clone, Copy, Debug, PartialEq, Eq)]
@@ -46,15 +59,18 @@ pub fn start(alloc: Global, elf: &Elf, devices: usize) -> Result<Core, StartFaul
     }
 }
 
-#[tactic(auto, unfolding(crate::specs::Start::started))]
+#[tactic(auto, unfolding(crate::specs::Start::started, word_memory::specs::Reservations::is_there))]
 fn state_of(alloc: Global, elf: &Elf, devices: usize) -> Result<State, AllocError>
     ensures { IfOk result (λ state. machine state ≡ started (image elf.now) devices) }
 {
     let memory = load(alloc, &elf.segment)?;
+    let mut held = Reservations::new(alloc);
+    held.add_thread(FIRST_THREAD)?;
     let outputs = Outputs::new(alloc, devices)?;
     Ok(State {
         host: Host {
             memory,
+            held,
             outputs,
             pending: Pending::new(),
             clock: 0,
@@ -80,13 +96,26 @@ fn pages(at: u64, size: u64) -> u64
     (at + size - 1) / PAGE - at / PAGE + 1
 }
 
-/// The segment's bytes from the file, and zeros behind them.
-fn load(alloc: Global, segment: &Segment) -> Result<Memory, AllocError>
+/// The pages of the segment: zeros, with the file's bytes at their addresses, readable and executable. It takes time and
+/// memory in the number of pages.
+#[tactic(auto, unfolding(crate::specs::Start::loaded))]
+fn load(alloc: Global, segment: &Segment) -> Result<Pages, AllocError>
     ensures { IfOk result (λ memory. memory ≡ loaded (segment_image segment.now)) }
 {
-    let size = segment.size as usize;
-    let mut bytes = Vec::with_capacity(alloc, size)?;
-    bytes.extend_from_slice(segment.file_bytes.as_slice())?;
-    bytes.resize(size, 0)?;
-    Ok(Memory::new(segment.at, Bytes::from_vec(bytes)))
+    let mut memory = Pages::new();
+    let start = segment.at - segment.at % PAGE;
+    let count = pages(segment.at, segment.size);
+    if memory.map(alloc, start, count, BEING_LOADED).is_err() {
+        return Err(AllocError);
+    }
+    if memory
+        .copy_in(segment.at, segment.file_bytes.as_slice())
+        .is_err()
+    {
+        return Err(AllocError);
+    }
+    if memory.protect(alloc, start, count, RUNNABLE).is_err() {
+        return Err(AllocError);
+    }
+    Ok(memory)
 }

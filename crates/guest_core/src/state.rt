@@ -2,13 +2,15 @@ use crate::ends::End;
 use crate::output::Outputs;
 use crate::places::Place;
 use crate::queue::Pending;
-use crate::registers::Regs;
-use crate::segment::Memory;
+use guest_pages::Pages;
+use isa_exec::Regs;
+use word_memory::Reservations;
 
 /// What the system has beside its threads.
 #[derive(Drop)]
 pub struct Host {
-    pub memory: Memory,
+    pub memory: Pages,
+    pub held: Reservations,
     pub outputs: Outputs,
     pub pending: Pending,
     /// In nanoseconds.

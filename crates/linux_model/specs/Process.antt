@@ -4,7 +4,7 @@
 use Rattle.std.specs.Prelude.{ℕ, List, Option, None}
 use Rattle.elf_file.specs.Reading.{Image}
 use Rattle.guest_core.specs.declared.ends.End.{End}
-use Rattle.guest_core.specs.declared.registers.Regs.{Regs}
+use Rattle.isa_exec.specs.declared.registers.Regs.{Regs}
 use Rattle.guest_core.specs.Machine.{Shared}
 use Rattle.guest_core.specs.Start.{first_shared, first_regs}
 

@@ -4,9 +4,8 @@
 use Rattle.std.specs.Prelude.{ℕ, ◌==◌, ◌&&◌, if◌then◌else◌, List, [], ◌∷◌, Option, Some, None, is_none}
 use Rattle.guest_core.specs.declared.queue.Instance.{Instance}
 use Rattle.guest_core.specs.Call as call
-use Rattle.guest_core.specs.Event.{first_thread}
 use Rattle.guest_core.specs.Instruction as instruction
-use Rattle.guest_core.specs.Machine.{due, later}
+use Rattle.guest_core.specs.Machine.{due, first_thread, later}
 use Rattle.guest_core.specs.Pending.{first_of, is_empty}
 use Rattle.guest_core.specs.Signals.{forced, taken_out, end_of_taking}
 use Rattle.linux_model.specs.declared.labels.Label.{Label}
@@ -15,7 +14,10 @@ use Rattle.linux_model.specs.Process.{ProcessState}
 
 -- an instruction other than ecall is made; its fault sends a forced signal
 abbrev pub instructed : instruction.Outcome → ProcessState → Option ProcessState
-instructed (instruction.Outcome.Runs regs) process = Some (record process { regs = regs })
+instructed (instruction.Outcome.Runs regs memory held) process = Some (record process {
+  regs = regs;
+  shared = record process.shared { memory = memory; held = held };
+})
 instructed instruction.Outcome.Calls process = None
 instructed (instruction.Outcome.Faults fault) process = Some (record process { shared = forced fault process.shared })
 
@@ -30,7 +32,7 @@ call_done called process = outcome_done called.outcome (record process { shared 
 -- at an ecall, and at nothing else, a call is made
 abbrev pub called : instruction.Outcome → ProcessState → Option ProcessState
 called instruction.Outcome.Calls process = Some (call_done (call.called process.regs process.shared) process)
-called (instruction.Outcome.Runs regs) process = None
+called (instruction.Outcome.Runs regs memory held) process = None
 called (instruction.Outcome.Faults fault) process = None
 
 -- the first due signal, and no other, is taken
@@ -39,13 +41,17 @@ taken None id process = None
 taken (Some instance) id process =
     if instance.id == id then Some (record process { shared = taken_out instance process.shared; end = Some (end_of_taking instance) }) else None
 
+-- what the thread's instruction does
+abbrev pub instruction_of : ProcessState → instruction.Outcome
+instruction_of process = instruction.instruction first_thread process.regs process.shared.memory process.shared.held
+
 -- instructions and calls wait until nothing is due
 abbrev pub allowed : Label → ProcessState → Option ProcessState
 allowed Tick process = Some (record process { shared = later process.shared })
 allowed (Instr thread) process =
-    if (thread == first_thread) && is_empty (due process.shared) then instructed (instruction.instruction process.regs process.shared.memory) process else None
+    if (thread == first_thread) && is_empty (due process.shared) then instructed (instruction_of process) process else None
 allowed (Call thread) process =
-    if (thread == first_thread) && is_empty (due process.shared) then called (instruction.instruction process.regs process.shared.memory) process else None
+    if (thread == first_thread) && is_empty (due process.shared) then called (instruction_of process) process else None
 allowed (Take thread id) process =
     if thread == first_thread then taken (first_of (due process.shared)) id process else None
 

@@ -1,20 +1,21 @@
 ghost use Rattle.std.specs.Prelude.{◌≡◌, ◌↔◌, ◌<◌, ◌==◌, if◌then◌else◌, ℕ, [], None, Some, IsTrue, IsSome, IfSome, IfOk, OnOk, MatchBool, length, slice_index_or, filter, not};
 ghost use Rattle.std.specs.Option.{option_copied};
 ghost use Rattle.guest_core.specs.Call.{called as call_of, write as write_of, Outcome as CallOutcome};
-ghost use Rattle.guest_core.specs.Registers.{register};
+ghost use Rattle.isa_exec.specs.Registers.{register};
 ghost use Rattle.guest_core.specs.Pending.{first_of};
 ghost use Rattle.guest_core.specs.Signals.{forced};
-ghost use Rattle.guest_core.specs.Instruction.{instruction, Outcome};
-ghost use Rattle.linux_model.specs.Steps.{instructed, call_done, taken, step};
+ghost use Rattle.linux_model.specs.Steps.{instructed, instruction_of, call_done, taken, step};
 
 use crate::labels::Label;
 use guest_core::{
-    Core, CoreParts, Effect, End, FIRST_THREAD, Fault, Instance, Memory, Outputs, Regs, SigNo,
-    execute,
+    Core, CoreParts, End, FIRST_THREAD, Fault, Instance, Made, Outputs, is_at_call,
+    make_instruction, read_bytes,
 };
-use isa_decode::{Instr, decode};
+use guest_pages::Pages;
+use isa_exec::Regs;
 use std::alloc::{AllocError, Global};
 use std::marker::Model;
+use word_memory::Reservations;
 
 const EBADF: i64 = 9;
 
@@ -25,7 +26,8 @@ const ENOSYS: i64 = 38;
 /// A process.
 #[derive(Drop)]
 pub struct Process {
-    memory: Memory,
+    memory: Pages,
+    held: Reservations,
     outputs: Outputs,
     pending: Vec<Instance>,
     next_id: u64,
@@ -39,7 +41,7 @@ impl Model for Process {
 
     ghost Value = { ProcessState };
 
-    ghost view = { λ process. record { shared = record { memory = process.memory; outputs = process.outputs; pending = process.pending.items; next_id = process.next_id; clock = process.clock }; regs = process.regs; end = process.end } };
+    ghost view = { λ process. record { shared = record { memory = process.memory; held = process.held; outputs = process.outputs; pending = process.pending.items; next_id = process.next_id; clock = process.clock }; regs = process.regs; end = process.end } };
 }
 
 impl Process {
@@ -56,11 +58,13 @@ impl Process {
     {
         let CoreParts {
             memory,
+            held,
             outputs,
             regs,
         } = core.into_parts();
         Process {
             memory,
+            held,
             outputs,
             pending: Vec::new(alloc),
             next_id: 0,
@@ -120,7 +124,10 @@ impl Process {
                 self.instruction()
             }
             Label::Call(thread) => {
-                if thread != FIRST_THREAD || !self.pending.is_empty() || !self.is_at_ecall() {
+                if thread != FIRST_THREAD
+                    || !self.pending.is_empty()
+                    || !is_at_call(&self.regs, &self.memory)
+                {
                     return Ok(false);
                 }
                 self.call()?;
@@ -130,70 +137,46 @@ impl Process {
         }
     }
 
-    #[tactic(auto, unfolding(guest_core::specs::Instruction::instruction))]
     fn instruction(&mut self) -> Result<bool, AllocError>
         ensures { IfOk result (λ made. MatchBool made
-            (instructed (instruction self.old.regs self.old.shared.memory) self.old ≡ Some self.new)
-            (instructed (instruction self.old.regs self.old.shared.memory) self.old ≡ None)) }
+            (instructed (instruction_of self.old) self.old ≡ Some self.new)
+            (instructed (instruction_of self.old) self.old ≡ None)) }
     {
-        let pc = self.regs.pc;
-        let word = match self.memory.code_at(pc) {
-            Ok(word) => word,
-            Err(address) => {
-                self.fault(SigNo::segmentation_fault(), address)?;
-                return Ok(true);
-            }
-        };
-        let Some(instr) = decode(word) else {
-            self.fault(SigNo::illegal_instruction(), pc)?;
-            return Ok(true);
-        };
-        match execute(&instr, &mut self.regs) {
-            Effect::Next => Ok(true),
-            Effect::Call => Ok(false),
-            Effect::Illegal => {
-                self.fault(SigNo::illegal_instruction(), pc)?;
+        match make_instruction(
+            FIRST_THREAD,
+            &mut self.regs,
+            &mut self.memory,
+            &mut self.held,
+        ) {
+            Ok(Made::Done) => Ok(true),
+            Ok(Made::Call) => Ok(false),
+            Err(fault) => {
+                self.fault(fault)?;
                 Ok(true)
             }
         }
     }
 
-    fn fault(&mut self, signal: SigNo, address: u64) -> Result<(), AllocError>
-        ensures { OnOk result (self.new ≡ record self.old { shared = forced (record { signal = signal; code = 1; address = address }) self.old.shared }) }
+    fn fault(&mut self, fault: Fault) -> Result<(), AllocError>
+        ensures { OnOk result (self.new ≡ record self.old { shared = forced fault self.old.shared }) }
     {
         let id = self.next_id;
         if id == u64::MAX {
             return Err(AllocError);
         }
-        self.pending.push(Instance {
-            id,
-            fault: Fault {
-                signal,
-                code: 1,
-                address,
-            },
-        })?;
+        self.pending.push(Instance { id, fault })?;
         self.next_id = id + 1;
         Ok(())
     }
 
-    #[tactic(auto, unfolding(guest_core::specs::Instruction::instruction, guest_core::specs::Instruction::executed))]
-    fn is_at_ecall(&self) -> bool
-        ensures { IsTrue result ↔ (instruction self.now.regs self.now.shared.memory ≡ Outcome.Calls) }
-    {
-        match self.memory.code_at(self.regs.pc) {
-            Ok(word) => matches!(decode(word), Some(Instr::Ecall)),
-            Err(_) => false,
-        }
-    }
-
-    #[tactic(auto, unfolding(guest_core::specs::Call::called, guest_core::specs::Call::write))]
+    #[tactic(auto, unfolding(guest_core::specs::Call::called, guest_core::specs::Call::made, guest_core::specs::Call::answered, guest_core::specs::Call::write))]
     fn call(&mut self) -> Result<(), AllocError>
         ensures { OnOk result (self.new ≡ call_done (call_of self.old.regs self.old.shared) self.old) }
     {
         let number = self.regs.register(17);
         let first = self.regs.register(10);
         if number == 94 {
+            self.held.end(FIRST_THREAD);
             self.end = Some(End::Exit((first % 256) as u8));
             return Ok(());
         }
@@ -202,8 +185,10 @@ impl Process {
         } else {
             -ENOSYS
         };
+        self.held.end(FIRST_THREAD);
+        let next = self.regs.behind(4);
         self.regs.set_register(10, answer.cast_unsigned());
-        self.regs.pass_four();
+        self.regs.go_on_at(next);
         Ok(())
     }
 
@@ -215,10 +200,15 @@ impl Process {
             return Ok(-EBADF);
         }
         let count = self.regs.register(12).min(1_048_576);
-        match self.memory.bytes_at(self.regs.register(11), count) {
-            Err(_) => Ok(-EFAULT),
-            Ok(bytes) => {
-                self.outputs.write(descriptor as usize, bytes)?;
+        match read_bytes(
+            self.outputs.alloc(),
+            &self.memory,
+            self.regs.register(11),
+            count,
+        )? {
+            None => Ok(-EFAULT),
+            Some(bytes) => {
+                self.outputs.write(descriptor as usize, bytes.as_slice())?;
                 Ok(count as i64)
             }
         }

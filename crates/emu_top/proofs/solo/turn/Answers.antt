@@ -1,6 +1,6 @@
 use Rattle.std.proofs.Common.{map, arith}
 use Rattle.guest_core.specs.declared.events.Event.TheVariants.{Step}
-use Rattle.guest_core.specs.Event.{first_thread}
+use Rattle.guest_core.specs.Machine.{first_thread}
 use Rattle.guest_core.specs.Growth.{lengthens, Lengthened}
 use Rattle.emu_top.proofs.TurnFacts.{ok_fact, Sending, sent_all, sent_part}
 use Rattle.emu_top.proofs.solo.turn.Goals as goal

@@ -1,0 +1,11 @@
+pub mod ByteFacts
+pub mod Counting
+pub mod FaultFacts
+pub mod MapFacts
+pub mod PageFacts
+pub mod RangeFacts
+pub mod Reading
+pub mod TableFacts
+pub mod RightsFacts
+pub mod UnmappedFacts
+pub mod WriteFacts

@@ -1,0 +1,11 @@
+use Rattle.std.proofs.Common.{sym, ap, lit≤}
+use Rattle.guest_pages.specs.Operations.{stored_pages}
+use Rattle.guest_pages.proofs.TableFacts.{held_none}
+use Rattle.guest_pages.proofs.pages.Pages.new.Goals as goal
+
+pub invariant_of-result : goal.invariant_of-result
+unfolding stored_pages
+invariant_of-result c = record { small = lit≤ tt; counted = sym (ap stored_pages held_none) }
+
+pub returns : goal.returns
+returns c = held_none

@@ -1,0 +1,53 @@
+use Rattle.std.proofs.Common.{◌≡◌, ◌+◌, ◌*◌, ◌/◌, ℕ, Err, Result, not, if◌then◌else◌, sym, ap, subst, ◌∙◌, arith}
+use Rattle.guest_pages.specs.declared.fault.MapFault.{MapFault}
+use Rattle.guest_pages.specs.declared.fault.MapFault.TheVariants.{PagesFull}
+use Rattle.guest_pages.specs.Cells.{has_none}
+use Rattle.guest_pages.specs.Counting.{count_pages}
+use Rattle.guest_pages.specs.Operations.{stored_pages}
+use Rattle.guest_pages.specs.Tables.{rows_of, cells}
+use Rattle.guest_pages.proofs.RangeFacts.{protect_wanted, protect_ok}
+use Rattle.guest_pages.proofs.UnmappedFacts.{mapped_cells, mapped_room}
+use Rattle.guest_pages.specs.Faults.{first_unmapped}
+use Rattle.guest_pages.proofs.pages.Pages.protect_mapped.Goals as goal
+
+pub returns-then-wanted-gt-MOST-clause-full : goal.returns-then-wanted-gt-MOST-clause-full
+returns-then-wanted-gt-MOST-clause-full c = λ n same.
+    let sum = subst (λ t. c.wanted_pages-wanted.result + count_pages (cells t) (c.args.at / 4096) c.args.count ≡ c.self.inside.stored + (if not (has_none c.args.rights) then c.args.count else 0)) c.rows.ensures c.wanted_pages-wanted.ensures in
+    let wanted = protect_wanted (rows_of c.self.inside.tables) c.self.inside.stored c.args.at c.args.count c.args.rights c.wanted_pages-wanted.result c.args.self.now c.self.invariant c.self.view_is c.requires.aligned c.requires.inside (λ q low high. mapped_cells (rows_of c.self.inside.tables) c.args.at c.args.count c.self.invariant.small c.requires.aligned (ap (λ m. first_unmapped m c.args.at (4096 * c.args.count)) c.self.view_is ∙ c.requires.mapped) q low high) sum in
+    let equal : c.wanted_pages-wanted.result ≡ n = cc in
+    (sym equal ∙ wanted, omega arith)
+
+pub returns-then-wanted-gt-MOST-clause-many : goal.returns-then-wanted-gt-MOST-clause-many
+returns-then-wanted-gt-MOST-clause-many c = λ more.
+    let sum = subst (λ t. c.wanted_pages-wanted.result + count_pages (cells t) (c.args.at / 4096) c.args.count ≡ c.self.inside.stored + (if not (has_none c.args.rights) then c.args.count else 0)) c.rows.ensures c.wanted_pages-wanted.ensures in
+    let wanted = protect_wanted (rows_of c.self.inside.tables) c.self.inside.stored c.args.at c.args.count c.args.rights c.wanted_pages-wanted.result c.args.self.now c.self.invariant c.self.view_is c.requires.aligned c.requires.inside (λ q low high. mapped_cells (rows_of c.self.inside.tables) c.args.at c.args.count c.self.invariant.small c.requires.aligned (ap (λ m. first_unmapped m c.args.at (4096 * c.args.count)) c.self.view_is ∙ c.requires.mapped) q low high) sum in
+    ap (λ (n : ℕ). let r : Result (Unit {0}) MapFault = Err (PagesFull n) in r) wanted
+
+pub invariant_of-self-in-Ok : goal.invariant_of-self-in-Ok
+invariant_of-self-in-Ok c =
+    let sum = subst (λ t. c.wanted_pages-wanted.result + count_pages (cells t) (c.args.at / 4096) c.args.count ≡ c.self.inside.stored + (if not (has_none c.args.rights) then c.args.count else 0)) c.rows.ensures c.wanted_pages-wanted.ensures in
+    let wanted = protect_wanted (rows_of c.self.inside.tables) c.self.inside.stored c.args.at c.args.count c.args.rights c.wanted_pages-wanted.result c.args.self.now c.self.invariant c.self.view_is c.requires.aligned c.requires.inside (λ q low high. mapped_cells (rows_of c.self.inside.tables) c.args.at c.args.count c.self.invariant.small c.requires.aligned (ap (λ m. first_unmapped m c.args.at (4096 * c.args.count)) c.self.view_is ∙ c.requires.mapped) q low high) sum in
+    let ok = protect_ok (rows_of c.self.inside.tables) (rows_of c.protect_pages.new.tables) c.self.inside.stored c.args.at c.args.count c.args.rights c.args.self.now c.self.invariant c.self.view_is c.requires.aligned c.in-Ok.ensures.ok in
+    record { small = let size = c.protect_pages.ensures.size in let small = c.self.invariant.small in omega arith; counted = wanted ∙ sym (ap stored_pages ok) }
+
+pub returns-in-Err-clause-many : goal.returns-in-Err-clause-many
+returns-in-Err-clause-many c = λ more.
+    let sum = subst (λ t. c.wanted_pages-wanted.result + count_pages (cells t) (c.args.at / 4096) c.args.count ≡ c.self.inside.stored + (if not (has_none c.args.rights) then c.args.count else 0)) c.rows.ensures c.wanted_pages-wanted.ensures in
+    let wanted = protect_wanted (rows_of c.self.inside.tables) c.self.inside.stored c.args.at c.args.count c.args.rights c.wanted_pages-wanted.result c.args.self.now c.self.invariant c.self.view_is c.requires.aligned c.requires.inside (λ q low high. mapped_cells (rows_of c.self.inside.tables) c.args.at c.args.count c.self.invariant.small c.requires.aligned (ap (λ m. first_unmapped m c.args.at (4096 * c.args.count)) c.self.view_is ∙ c.requires.mapped) q low high) sum in
+    absurd (omega arith)
+
+pub returns-in-Ok-clause-ok : goal.returns-in-Ok-clause-ok
+returns-in-Ok-clause-ok c =
+    protect_ok (rows_of c.self.inside.tables) (rows_of c.protect_pages.new.tables) c.self.inside.stored c.args.at c.args.count c.args.rights c.args.self.now c.self.invariant c.self.view_is c.requires.aligned c.in-Ok.ensures.ok
+
+pub returns-in-Ok-clause-many : goal.returns-in-Ok-clause-many
+returns-in-Ok-clause-many c = λ more.
+    let sum = subst (λ t. c.wanted_pages-wanted.result + count_pages (cells t) (c.args.at / 4096) c.args.count ≡ c.self.inside.stored + (if not (has_none c.args.rights) then c.args.count else 0)) c.rows.ensures c.wanted_pages-wanted.ensures in
+    let wanted = protect_wanted (rows_of c.self.inside.tables) c.self.inside.stored c.args.at c.args.count c.args.rights c.wanted_pages-wanted.result c.args.self.now c.self.invariant c.self.view_is c.requires.aligned c.requires.inside (λ q low high. mapped_cells (rows_of c.self.inside.tables) c.args.at c.args.count c.self.invariant.small c.requires.aligned (ap (λ m. first_unmapped m c.args.at (4096 * c.args.count)) c.self.view_is ∙ c.requires.mapped) q low high) sum in
+    absurd (omega arith)
+
+pub protect_pages-requires-clause-room : goal.protect_pages-requires-clause-room
+protect_pages-requires-clause-room c = λ n low high.
+    mapped_room (rows_of c.self.inside.tables) n
+    (mapped_cells (rows_of c.self.inside.tables) c.args.at c.args.count c.self.invariant.small c.requires.aligned
+    (ap (λ m. first_unmapped m c.args.at (4096 * c.args.count)) c.self.view_is ∙ c.requires.mapped) n low high)

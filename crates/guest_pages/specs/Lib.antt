@@ -1,0 +1,9 @@
+pub mod Cells
+pub mod Counting
+pub mod Faults
+pub mod Mapping
+pub mod Operations
+pub mod Ranges
+pub mod Sizes
+pub mod Tables
+pub mod Writes

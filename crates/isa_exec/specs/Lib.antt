@@ -1,0 +1,3 @@
+pub mod Arithmetic
+pub mod Execution
+pub mod Registers
