@@ -146,7 +146,7 @@ fn of_half(pc: u64, half: u16) -> Result<(Instr, u64), Fault>
 }
 
 /// The instruction of a word of two half words.
-#[inline]
+#[inline(always)]
 fn of_word(pc: u64, low: u16, high: u16) -> Result<(Instr, u64), Fault>
     ensures found { MatchResult result
         (λ of. is_or_illegal pc 4 (decoding (low + 2 ^ 16 * high)) ≡ Found.Is of.0 of.1)

@@ -41,7 +41,7 @@ const SYSTEM: u32 = 0x73;
 /// The instruction that the word stands for, `None` exactly where it stands for none.
 ///
 /// References: the RISC-V unprivileged manual, "RV32/64G Instruction Set Listings".
-#[inline]
+#[inline(always)]
 #[tactic(auto, using(crate::proofs::RowFacts::found_decodes, crate::proofs::RowFacts::word_decodes))]
 pub fn decode(word: u32) -> Option<Instr>
     ensures listing { result ≡ decoding word }
@@ -52,6 +52,7 @@ pub fn decode(word: u32) -> Option<Instr>
     found(word)
 }
 
+#[inline(always)]
 #[tactic(auto, using(crate::proofs::OpcodeFacts::none_of_group, crate::proofs::OpcodeFacts::none_of_opcode))]
 fn found(word: u32) -> Option<Instr>
     ensures stands { IfSome result (IsWord word) }
