@@ -1,8 +1,13 @@
 -- The last entry of a journal.
-use Rattle.std.proofs.Common.{◌≡◌, ◌≢◌, ℕ, zero, suc, ◌+◌, ◌≤◌, ◌<◌, List, [], ◌∷◌, ◌++◌, length, get_or, set, ap, sym, ◌∙◌, subst, append_assoc, append-nil, length-append, arith}
+use Rattle.std.proofs.Common.{◌≡◌, ◌≢◌, ℕ, zero, suc, ◌+◌, ◌≤◌, ◌<◌, List, [], ◌∷◌, ◌++◌, length, replicate, get_or, set, ap, sym, ◌∙◌, subst, append_assoc, append-nil, length-append, arith}
 use Rattle.emu_top.specs.declared.journal.Entry.{Entry}
 use Rattle.emu_top.specs.Journal.{thread_of, steps_of, counted, all_counted, IsMerged, EndsApart}
+use Rattle.std.proofs.lemmas.List.{replicate-append-replicate}
 use Rattle.guest_core.specs.declared.events.Event.{Event}
+
+-- more steps of one entry
+pub more_steps : (before more : ℕ) (event : Event) → replicate (before + more) event ≡ replicate before event ++ replicate more event
+more_steps before more event = sym (replicate-append-replicate before more event)
 
 -- one more entry
 pub all_counted_more : (entries : List Entry) (entry : Entry) → all_counted (entries ++ entry ∷ []) ≡ all_counted entries ++ counted entry

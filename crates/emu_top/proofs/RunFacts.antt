@@ -1,35 +1,62 @@
 -- A run goes on by a turn.
 use Rattle.std.proofs.Common.{◌≡◌, ℕ, ◌+◌, ◌<◌, ◌≤◌, List, [], ◌∷◌, Option, Some, map, length, slice_index, ap, sym, ◌∙◌, length-append, arith}
+use Rattle.guest_core.specs.declared.events.Event.{Event}
 use Rattle.guest_core.specs.declared.events.Event.TheVariants.{Step}
-use Rattle.guest_core.specs.Machine.{first_thread}
+use Rattle.std.specs.declared.alloc.Global.{Global}
+use Rattle.std.specs.declared.vec.Vec.{Vec}
+use Rattle.guest_core.specs.Machine.{Machine, first_thread}
 use Rattle.guest_core.specs.Event.{run}
 use Rattle.guest_core.proofs.RunFacts.{run_append}
 use Rattle.emu_top.specs.declared.solo.Halt.{Halt}
 use Rattle.emu_top.specs.declared.solo.Halt.TheVariants as halts
 use Rattle.emu_top.specs.declared.solo.Run.{Run}
 use Rattle.emu_top.specs.Sending.{NoneFell}
-use Rattle.emu_top.specs.Running.{Stepped, KeepsSent, KeepsSentUpTo, FailsAt, Halted, Stopped}
+use Rattle.emu_top.specs.Running.{Makes, WentAhead, Stepped, KeepsSent, KeepsSentUpTo, FailsAt, Halted, Stopped}
 use Rattle.emu_top.specs.Told.{Rose}
 
 -- a run so far, from how it was at first
-pub record SoFar {D : Type 0} (held : D → Option (List ℕ)) (writes : D → ℕ) (first now : Run D) (turns : ℕ) : Type 0 where
+pub record SoFar {D : Type 0} (held : D → Option (List ℕ)) (writes : D → ℕ) (first now : Run D) : Type 0 where
   pub ran : run (Some first.core) now.journal.events ≡ Some now.core
-  pub count : length now.journal.events ≡ turns
+  pub within : length now.journal.events ≤ first.journal.budget
   pub budget : now.journal.budget ≡ first.journal.budget
   pub sent : KeepsSent held first now
   pub devices : length now.devices.items ≡ length first.devices.items
   pub outputs : length now.core.shared.outputs ≡ length first.core.shared.outputs
   pub none_fell : NoneFell (map writes first.devices.items) (map writes now.devices.items)
 
-pub ran_more : {D : Type 0} (first now next : Run D) → run (Some first.core) now.journal.events ≡ Some now.core → Stepped now next → run (Some first.core) next.journal.events ≡ Some next.core
-ran_more first now next ran stepped =
-    ap (run (Some first.core)) stepped.noted
-    ∙ run_append (Some first.core) now.journal.events (Step first_thread ∷ [])
-    ∙ ap (λ state. run state (Step first_thread ∷ [])) ran
-    ∙ stepped.event
+ran_on : {D : Type 0} (first now next : Run D) → run (Some first.core) now.journal.events ≡ Some now.core → Makes now.core now.journal.events next.core next.journal.events → run (Some first.core) next.journal.events ≡ Some next.core
+ran_on first now next ran makes =
+    ap (run (Some first.core)) makes.noted
+    ∙ run_append (Some first.core) now.journal.events makes.events
+    ∙ ap (λ state. run state makes.events) ran
+    ∙ makes.made
 
-pub count_more : {D : Type 0} (now next : Run D) (count : ℕ) → length now.journal.events ≡ count → Stepped now next → length next.journal.events ≡ count + 1
-count_more now next count is stepped = ap length stepped.noted ∙ length-append now.journal.events (Step first_thread ∷ []) ∙ ap (λ (n : ℕ). n + 1) is
+longer : (now next : List Event) (old new : Machine) → Makes old now new next → length now ≤ length next
+longer now next old new makes = rw (makes.noted, length-append now makes.events) (omega arith)
+
+pub ahead_longer : {D : Type 0} (now next : Run D) (limit : ℕ) → WentAhead now next limit → length now.journal.events ≤ length next.journal.events
+ahead_longer now next limit ahead = longer now.journal.events next.journal.events now.core next.core ahead.made
+
+sent_ahead : {D : Type 0} (held : D → Option (List ℕ)) (first now next : Run D) → next.core.shared.outputs ≡ now.core.shared.outputs → next.devices ≡ now.devices → KeepsSent held first now → KeepsSent held first next
+sent_ahead held first now next outputs devices sent = λ helds size all. rw (outputs, devices) (sent helds size all)
+
+pub so_far_ahead : {D : Type 0} (held : D → Option (List ℕ)) (writes : D → ℕ) (first now next : Run D) (limit : ℕ) → SoFar held writes first now → WentAhead now next limit → length now.journal.events + limit ≤ first.journal.budget → SoFar held writes first next
+so_far_ahead {D = D} held writes first now next limit so_far ahead room = record {
+  ran = ran_on first now next so_far.ran ahead.made;
+  within = omega (arith, ahead.few, room);
+  budget = ahead.budget ∙ so_far.budget;
+  sent = sent_ahead held first now next ahead.outputs ahead.devices so_far.sent;
+  devices = ap (λ (devices : Vec D Global). length devices.items) ahead.devices ∙ so_far.devices;
+  outputs = ap length ahead.outputs ∙ so_far.outputs;
+  none_fell = rw ahead.devices so_far.none_fell;
+}
+
+ran_more : {D : Type 0} (first now next : Run D) → run (Some first.core) now.journal.events ≡ Some now.core → Stepped now next → run (Some first.core) next.journal.events ≡ Some next.core
+ran_more first now next ran stepped =
+    ran_on first now next ran (record { events = Step first_thread ∷ []; made = stepped.event; noted = stepped.noted })
+
+count_more : {D : Type 0} (now next : Run D) → Stepped now next → length next.journal.events ≡ length now.journal.events + 1
+count_more now next stepped = ap length stepped.noted ∙ length-append now.journal.events (Step first_thread ∷ [])
 
 pub sent_on : {D : Type 0} (held : D → Option (List ℕ)) (first now next : Run D) → length now.core.shared.outputs ≡ length first.core.shared.outputs → KeepsSent held first now → KeepsSent held now next → KeepsSent held first next
 sent_on held first now next same before after = λ helds size all. after helds (size ∙ sym same) (before helds size all)
@@ -49,22 +76,56 @@ fails_on writes device first now next fell fails = record {
   rose = rose_on (slice_index (map writes first.devices.items) device) (slice_index (map writes now.devices.items) device) (slice_index (map writes next.devices.items) device) (fell device) fails.rose;
 }
 
+-- a turn was made
+pub record Turned {D : Type 0} (held : D → Option (List ℕ)) (writes : D → ℕ) (now next : Run D) : Type 0 where
+  pub stepped : Stepped now next
+  pub sent : KeepsSent held now next
+  pub budget : next.journal.budget ≡ now.journal.budget
+  pub devices : length next.devices.items ≡ length now.devices.items
+  pub outputs : length next.core.shared.outputs ≡ length now.core.shared.outputs
+  pub none_fell : NoneFell (map writes now.devices.items) (map writes next.devices.items)
+
+pub so_far_turned : {D : Type 0} (held : D → Option (List ℕ)) (writes : D → ℕ) (first now next : Run D) → SoFar held writes first now → Turned held writes now next → length now.journal.events < first.journal.budget → SoFar held writes first next
+so_far_turned held writes first now next so_far turned room = record {
+  ran = ran_more first now next so_far.ran turned.stepped;
+  within = omega (arith, count_more now next turned.stepped, room);
+  budget = turned.budget ∙ so_far.budget;
+  sent = sent_on held first now next so_far.outputs so_far.sent turned.sent;
+  devices = turned.devices ∙ so_far.devices;
+  outputs = turned.outputs ∙ so_far.outputs;
+  none_fell = fell_on (map writes first.devices.items) (map writes now.devices.items) (map writes next.devices.items) so_far.none_fell turned.none_fell;
+}
+
+pub turned_longer : {D : Type 0} (held : D → Option (List ℕ)) (writes : D → ℕ) (now next : Run D) → Turned held writes now next → length now.journal.events < length next.journal.events
+turned_longer held writes now next turned = omega (arith, count_more now next turned.stepped)
+
 -- where a turn stopped, so did the run
-pub stopped_at : {D : Type 0} (held : D → Option (List ℕ)) (writes : D → ℕ) (halt : Halt) (first now next : Run D) (count : ℕ) → SoFar held writes first now count → count < first.journal.budget → next.journal.budget ≡ now.journal.budget → Halted held writes halt now next → Stopped held writes halt first next
-stopped_at held writes (halts.Device device) first now next count so_far more budget halted = (
+pub stopped_at : {D : Type 0} (held : D → Option (List ℕ)) (writes : D → ℕ) (halt : Halt) (first now next : Run D) → SoFar held writes first now → length now.journal.events < first.journal.budget → next.journal.budget ≡ now.journal.budget → Halted held writes halt now next → Stopped held writes halt first next
+stopped_at held writes (halts.Device device) first now next so_far more budget halted = (
   record {
     events = ran_more first now next so_far.ran halted.0;
-    within = omega (arith, count_more now next count so_far.count halted.0, so_far.budget, budget, more);
+    within = omega (arith, count_more now next halted.0, so_far.budget, budget, more);
     budget = budget ∙ so_far.budget;
   },
   up_to_on held device first now next so_far.outputs so_far.sent halted.1,
   fails_on writes device first now next so_far.none_fell halted.2,
 )
-stopped_at held writes halts.Memory first now next count so_far more budget halted = (
+stopped_at held writes halts.Memory first now next so_far more budget halted = (
   record {
     events = ap (run (Some first.core)) halted.events ∙ so_far.ran ∙ ap Some (sym halted.core);
-    within = omega (arith, ap length halted.events, so_far.count, so_far.budget, budget, more);
+    within = omega (arith, ap length halted.events, so_far.within, so_far.budget, budget, more);
     budget = budget ∙ so_far.budget;
   },
   λ helds size all. rw (halted.core, halted.devices) (so_far.sent helds size all),
+)
+
+-- where memory was wanting, the run stopped as it was
+pub stopped_here : {D : Type 0} (held : D → Option (List ℕ)) (writes : D → ℕ) (first now : Run D) → SoFar held writes first now → Stopped held writes halts.Memory first now
+stopped_here held writes first now so_far = (
+  record {
+    events = so_far.ran;
+    within = omega (arith, so_far.within, so_far.budget);
+    budget = so_far.budget;
+  },
+  so_far.sent,
 )

@@ -1,5 +1,5 @@
 -- From a run of the core to what the top call answers.
-use Rattle.std.proofs.Common.{◌≡◌, ℕ, ◌<◌, ◌≤◌, List, [], ◌∷◌, ◌++◌, append-nil, replicate, Some, None, Option, Result, Ok, Err, IfErr, map, length, ◌⊎◌, inl, inr, refl, ap, sym, ◌∙◌, subst}
+use Rattle.std.proofs.Common.{◌≡◌, ℕ, ◌<◌, ◌≤◌, List, [], ◌∷◌, ◌++◌, append-nil, replicate, Some, None, Option, Result, Ok, Err, IfOk, IfErr, map, length, ◌⊎◌, inl, inr, refl, ap, sym, ◌∙◌, subst}
 use Rattle.std.proofs.lemmas.List.{length-map, length-replicate}
 use Rattle.elf_file.specs.declared.fault.ElfFault.{ElfFault}
 use Rattle.elf_file.specs.declared.fault.ElfFault.TheVariants as elf_faults
@@ -12,12 +12,12 @@ use Rattle.emu_top.specs.declared.solo.Halt.TheVariants as halts
 use Rattle.emu_top.specs.declared.solo.Run.{Run}
 use Rattle.emu_top.specs.declared.top.Finished.{Finished}
 use Rattle.emu_top.specs.declared.top.Stopped as top
-use Rattle.emu_top.specs.Running.{Ran, Stopped}
+use Rattle.emu_top.specs.Running.{Ran, Ended, Stopped, IsEnd}
 use Rattle.emu_top.specs.Sending.{sent}
 use Rattle.guest_core.specs.Event.{run}
 use Rattle.emu_top.specs.declared.folder.Entry.{Entry}
 use Rattle.emu_top.specs.Journal.{History}
-use Rattle.emu_top.specs.Solo.{budget, RunsFrom, CoreFinishes, CoreStops, Prepared, Journeys, Finishes, Untouched, StoppedBy, Wants, IsCaused, Faults, halt_cause}
+use Rattle.emu_top.specs.Solo.{budget, status_of, RunsFrom, CoreFinishes, CoreStops, Prepared, Journeys, Finishes, Untouched, StoppedBy, Wants, IsCaused, Faults, halt_cause}
 use Rattle.emu_top.specs.Notes.{cause_line, Tries, TellsFault}
 use Rattle.emu_top.specs.declared.cause.Cause.{Cause}
 use Rattle.emu_top.specs.declared.cause.Cause.TheVariants as causes
@@ -44,6 +44,21 @@ answer_stops held writes ended first last (Ok f) is size quiet same stopped tell
 answer_stops held writes ended first last (Err f) is size quiet same stopped tells =
     let halted : Stopped held writes f.halt first last = subst (λ (r : Result End Halt). IfErr r (λ halt. Stopped held writes halt first last)) tells.0 stopped in
     rw (tells.1, tells.2) (core_stops held writes f.halt first last is size quiet same halted)
+
+core_finishes : {D : Type 0} (held : D → Option (List ℕ)) (end : End) (status : ℕ) (first last : Run D) → first.journal.budget ≡ budget → length (map held first.devices.items) ≡ length first.core.shared.outputs → map held first.devices.items ≡ sent (map held first.devices.items) first.core.shared.outputs → Ended held end first last → status ≡ status_of end → CoreFinishes held first.core first.devices.items end status last.journal last.devices.items
+core_finishes held end status first last is size quiet ended status_is = record {
+  last = last.core;
+  runs = runs_from first last is ended.ran;
+  end_is = subst (λ (n : ℕ). IsEnd last.core.end (length last.journal.events) n end) (ended.ran.budget ∙ is) ended.end_is;
+  status_is = status_is;
+  all_sent = ended.sent (map held first.devices.items) size quiet;
+}
+
+pub answer_finishes : {D : Type 0} (held : D → Option (List ℕ)) (ended : Result End Halt) (first last : Run D) (answer : Result (Finished D) (top.Stopped D)) → first.journal.budget ≡ budget → length (map held first.devices.items) ≡ length first.core.shared.outputs → map held first.devices.items ≡ sent (map held first.devices.items) first.core.shared.outputs → IfOk ended (λ end. Ended held end first last) → IfOk answer (λ f. (ended ≡ Ok f.end) × (f.status ≡ status_of f.end) × (f.journal ≡ last.journal) × (f.devices ≡ last.devices)) → IfOk answer (λ f. CoreFinishes held first.core first.devices.items f.end f.status f.journal f.devices.items)
+answer_finishes held ended first last (Err f) is size quiet done tells = tells
+answer_finishes held ended first last (Ok f) is size quiet done tells =
+    let whole : Ended held f.end first last = subst (λ (r : Result End Halt). IfOk r (λ end. Ended held end first last)) tells.0 done in
+    rw (tells.2, tells.3) (core_finishes held f.end f.status first last is size quiet whole tells.1)
 
 -- ---- the start
 

@@ -1,10 +1,11 @@
 -- A run as it goes on: the core, the journal, and the devices that are handed what is new.
 -- The project's own.
-use Rattle.std.specs.Prelude.{◌≡◌, ◌<◌, ◌≤◌, ℕ, List, [], ◌∷◌, ◌++◌, map, length, Option, Some, None, slice_index}
+use Rattle.std.specs.Prelude.{◌≡◌, ◌<◌, ◌≤◌, ℕ, ◌+◌, List, [], ◌∷◌, ◌++◌, map, length, Option, Some, None, slice_index}
+use Rattle.guest_core.specs.declared.events.Event.{Event}
 use Rattle.guest_core.specs.declared.events.Event.TheVariants.{Step}
 use Rattle.guest_core.specs.declared.ends.End.{End}
 use Rattle.guest_core.specs.declared.ends.End.TheVariants.{Budget}
-use Rattle.guest_core.specs.Machine.{first_thread}
+use Rattle.guest_core.specs.Machine.{Machine, first_thread}
 use Rattle.guest_core.specs.Event.{event_after, run}
 use Rattle.emu_top.specs.declared.solo.Halt.{Halt}
 use Rattle.emu_top.specs.declared.solo.Halt.TheVariants as halts
@@ -16,6 +17,21 @@ use Rattle.emu_top.specs.Told.{Rose}
 pub record Stepped {D : Type 0} (old new : Run D) : Type 0 where
   pub event : event_after old.core (Step first_thread) ≡ Some new.core
   pub noted : new.journal.events ≡ old.journal.events ++ Step first_thread ∷ []
+
+-- events were made, and noted behind those before
+pub record Makes (old : Machine) (events_before : List Event) (new : Machine) (events_after : List Event) : Type 0 where
+  pub events : List Event
+  pub made : run (Some old) events ≡ Some new
+  pub noted : events_after ≡ events_before ++ events
+
+-- at most so many events were made, which wrote nothing
+pub record WentAhead {D : Type 0} (old new : Run D) (limit : ℕ) : Type 0 where
+  pub made : Makes old.core old.journal.events new.core new.journal.events
+  pub few : length new.journal.events ≤ length old.journal.events + limit
+  pub outputs : new.core.shared.outputs ≡ old.core.shared.outputs
+  pub end : new.core.end ≡ old.core.end
+  pub budget : new.journal.budget ≡ old.journal.budget
+  pub devices : new.devices ≡ old.devices
 
 -- nothing was made
 pub record Stays {D : Type 0} (old new : Run D) : Type 0 where

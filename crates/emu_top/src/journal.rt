@@ -1,4 +1,4 @@
-ghost use Rattle.std.specs.Prelude.{◌≡◌, ◌≢◌, ◌≤◌, ◌<◌, ◌+◌, ◌^◌, ◌++◌, ◌∷◌, [], None, length, slice_index_or, vec_len, vec_capacity, IfSome, OnOk};
+ghost use Rattle.std.specs.Prelude.{◌≡◌, ◌≢◌, ◌≤◌, ◌<◌, ◌+◌, ◌^◌, ◌++◌, ◌∷◌, [], None, length, replicate, slice_index_or, vec_len, vec_capacity, IfSome, OnOk};
 ghost use Rattle.emu_top.specs.declared.journal.Entry.{Entry};
 ghost use Rattle.emu_top.specs.Journal.{thread_of, steps_of, counted, all_counted, IsMerged, EndsApart};
 
@@ -67,7 +67,7 @@ impl Journal {
         self.entries.as_slice()
     }
 
-    /// Makes room for an event.
+    /// Makes room for steps of a thread that follow each other.
     pub fn reserve(&mut self) -> Result<(), AllocError>
         ensures ok { OnOk result (0 < self.new.room) }
         ensures events { self.new.events ≡ self.old.events }
@@ -76,43 +76,50 @@ impl Journal {
         self.entries.reserve(1)
     }
 
-    /// Adds an event at the end. It takes no memory.
-    pub fn note(&mut self, event: Event)
+    /// Adds so many steps of a thread at the end, in constant time. It takes no memory.
+    pub fn note(&mut self, thread: u32, steps: u32)
         requires room { 0 < self.old.room }
-        requires count { length self.old.events + 1 < 2 ^ 32 }
-        ensures events { self.new.events ≡ self.old.events ++ event ∷ [] }
+        requires count { length self.old.events + steps < 2 ^ 32 }
+        ensures events { self.new.events ≡ self.old.events ++ replicate steps (Event.Step thread) }
         ensures budget { self.new.budget ≡ self.old.budget }
     {
-        let Event::Step(thread) = event;
-        note_step(&mut self.entries, thread);
-        self.count += 1;
+        if steps == 0 {
+            return;
+        }
+        note_steps(&mut self.entries, thread, steps);
+        self.count += steps;
     }
 }
 
-/// Adds a step of a thread to the last entry where that is of the same thread, else in an entry of its own.
+/// Adds steps of a thread to the last entry where that is of the same thread, else in an entry of its own.
 #[tactic(auto, using(crate::proofs::JournalFacts::last_set, crate::proofs::JournalFacts::all_counted_more, crate::proofs::JournalFacts::merged_set, crate::proofs::JournalFacts::merged_push))]
-fn note_step(entries: &mut Vec<Entry>, thread: u32)
+fn note_steps(entries: &mut Vec<Entry>, thread: u32, steps: u32)
     requires room { vec_len entries.old < vec_capacity entries.old }
-    requires count { length (all_counted entries.old.items) + 1 < 2 ^ 32 }
+    requires count { length (all_counted entries.old.items) + steps < 2 ^ 32 }
+    requires some { 0 < steps }
     requires merged { IsMerged entries.old.items }
-    ensures events { all_counted entries.new.items ≡ all_counted entries.old.items ++ Event.Step thread ∷ [] }
+    ensures events { all_counted entries.new.items ≡ all_counted entries.old.items ++ replicate steps (Event.Step thread) }
     ensures merged { IsMerged entries.new.items }
 {
-    match longer_last(entries, thread) {
+    match longer_last(entries, thread, steps) {
         Some((last, entry)) => entries[last] = entry,
-        None => match entries.push(Entry::Steps { thread, count: 1 }) {
+        None => match entries.push(Entry::Steps {
+            thread,
+            count: steps,
+        }) {
             Ok(()) => {}
             Err(_) => unreachable!(),
         },
     }
 }
 
-/// The place of the last entry, and this entry with one more step, where it is of the same thread.
+/// The place of the last entry, and this entry with more steps, where it is of the same thread.
 #[tactic(auto, using(crate::proofs::JournalFacts::last_fits, crate::proofs::JournalFacts::ends_apart))]
-fn longer_last(entries: &[Entry], thread: u32) -> Option<(usize, Entry)>
-    requires { length (all_counted entries.now) + 1 < 2 ^ 32 }
+fn longer_last(entries: &[Entry], thread: u32, steps: u32) -> Option<(usize, Entry)>
+    requires count { length (all_counted entries.now) + steps < 2 ^ 32 }
+    requires some { 0 < steps }
     ensures place { IfSome result (λ last. last.0 + 1 ≡ length entries.now) }
-    ensures longer { IfSome result (λ last. (d : Entry) → counted last.1 ≡ counted (slice_index_or entries.now last.0 d) ++ Event.Step thread ∷ []) }
+    ensures longer { IfSome result (λ last. (d : Entry) → counted last.1 ≡ counted (slice_index_or entries.now last.0 d) ++ replicate steps (Event.Step thread)) }
     ensures same { IfSome result (λ last. (d : Entry) → thread_of last.1 ≡ thread_of (slice_index_or entries.now last.0 d)) }
     ensures some { IfSome result (λ last. 0 < steps_of last.1) }
     ensures apart { result ≡ None → EndsApart entries.now thread }
@@ -121,16 +128,18 @@ fn longer_last(entries: &[Entry], thread: u32) -> Option<(usize, Entry)>
         return None;
     }
     let last = entries.len() - 1;
-    match with_step(entries[last], thread) {
+    match with_steps(entries[last], thread, steps) {
         Some(entry) => Some((last, entry)),
         None => None,
     }
 }
 
-/// The entry with one more step, where it is of the same thread.
-fn with_step(entry: Entry, thread: u32) -> Option<Entry>
-    requires { length (counted entry) + 1 < 2 ^ 32 }
-    ensures longer { IfSome result (λ longer. counted longer ≡ counted entry ++ Event.Step thread ∷ []) }
+/// The entry with more steps, where it is of the same thread.
+#[tactic(auto, using(crate::proofs::JournalFacts::more_steps))]
+fn with_steps(entry: Entry, thread: u32, steps: u32) -> Option<Entry>
+    requires count { length (counted entry) + steps < 2 ^ 32 }
+    requires some { 0 < steps }
+    ensures longer { IfSome result (λ longer. counted longer ≡ counted entry ++ replicate steps (Event.Step thread)) }
     ensures same { IfSome result (λ longer. thread_of longer ≡ thread_of entry) }
     ensures some { IfSome result (λ longer. 0 < steps_of longer) }
     ensures apart { result ≡ None → thread_of entry ≢ thread }
@@ -143,7 +152,7 @@ fn with_step(entry: Entry, thread: u32) -> Option<Entry>
             if last == thread {
                 Some(Entry::Steps {
                     thread,
-                    count: count + 1,
+                    count: count + steps,
                 })
             } else {
                 None

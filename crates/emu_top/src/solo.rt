@@ -6,7 +6,7 @@ ghost use Rattle.guest_core.specs.Machine.{first_thread};
 ghost use Rattle.guest_core.specs.Growth.{lengthens, Lengthened};
 ghost use Rattle.emu_top.specs.Told.{more, Rose};
 ghost use Rattle.emu_top.specs.Sending.{NoneFell};
-ghost use Rattle.emu_top.specs.Running.{Stepped, KeepsSent, Halted, Ended, Stopped};
+ghost use Rattle.emu_top.specs.Running.{WentAhead, Stepped, KeepsSent, Halted, Ended, Stopped};
 
 use crate::device::{Device, DeviceFailed};
 use crate::journal::Journal;
@@ -41,11 +41,10 @@ fn advance(core: &mut Core, journal: &mut Journal) -> Result<(), AllocError>
     ensures unnoted { OnErr result (journal.new.events ≡ journal.old.events) }
     ensures budget { journal.new.budget ≡ journal.old.budget }
 {
-    let event = Event::Step(FIRST_THREAD);
     journal.reserve()?;
-    match core.event(&event) {
+    match core.event(&Event::Step(FIRST_THREAD)) {
         Ok(()) => {
-            journal.note(event);
+            journal.note(FIRST_THREAD, 1);
             Ok(())
         }
         Err(_) => Err(AllocError),
@@ -63,6 +62,18 @@ fn send<D: Device>(devices: &mut Vec<D>, device: usize, bytes: &[u8]) -> Result<
     ensures count { length devices.new.items ≡ length devices.old.items }
 {
     devices[device].take(bytes)
+}
+
+/// Makes steps that make an instruction and nothing else, at most `limit`, as far as they go, and notes them at once. So
+/// nothing is written. After want of memory nothing was made.
+fn go_ahead<D: Device>(run: &mut Run<D>, limit: u32) -> Result<(), AllocError>
+    requires { length run.old.journal.events + limit < 2 ^ 32 }
+    ensures { WentAhead run.old run.new limit }
+{
+    run.journal.reserve()?;
+    let steps = run.core.run_on(limit);
+    run.journal.note(FIRST_THREAD, steps);
+    Ok(())
 }
 
 /// Makes a step, and sends what it wrote to its device.
@@ -109,6 +120,15 @@ pub fn run_to_end<D: Device>(run: &mut Run<D>) -> Result<End, Halt>
     for _ in 0..run.journal.budget() {
         if let Some(end) = run.core.ended() {
             return Ok(end);
+        }
+        let left = run.journal.budget() - run.journal.count();
+        if left == 0 {
+            return Ok(End::Budget);
+        }
+        // One step is left for the turn.
+        match go_ahead(run, left - 1) {
+            Ok(()) => {}
+            Err(_) => return Err(Halt::Memory),
         }
         match turn(run) {
             Ok(()) => {}

@@ -6,7 +6,7 @@ use Rattle.isa_exec.specs.declared.effect.Effect.{Effect}
 use Rattle.isa_exec.specs.declared.effect.Effect.TheVariants as effect
 use Rattle.isa_exec.specs.declared.registers.Regs.{Regs}
 use Rattle.isa_exec.specs.Arithmetic.{is_taken}
-use Rattle.isa_exec.specs.Execution.{effect_of, regs_after}
+use Rattle.isa_exec.specs.Execution.{effect_of, is_alone, regs_after}
 use Rattle.isa_exec.specs.Registers.{register}
 use Rattle.guest_pages.specs.declared.fault.PageFault.{PageFault}
 use Rattle.guest_pages.specs.Ranges.{Range}
@@ -134,3 +134,41 @@ calls_is_ecall thread (Amo op wide order rd rs1 rs2) size regs memory held same 
 calls_is_ecall thread (Fence code rd rs1 imm) size regs memory held same = cc
 calls_is_ecall thread Ecall size regs memory held same = refl
 calls_is_ecall thread Ebreak size regs memory held same = cc
+
+-- an instruction on registers alone is made by them
+pub alone_is_row : (thread : ℕ) (instr : Instr) (size : ℕ) (regs : Regs) (memory : List Range) (held : List Held) → is_alone instr ≡ true → executed thread instr size regs memory held ≡ Outcome.Runs (regs_after instr size regs) memory held
+unfolding executed
+alone_is_row thread (Lui rd imm) size regs memory held alone = refl
+alone_is_row thread (Auipc rd imm) size regs memory held alone = refl
+alone_is_row thread (Jal rd imm) size regs memory held alone = refl
+alone_is_row thread (Jalr rd rs1 imm) size regs memory held alone = refl
+alone_is_row thread (Branch cmp rs1 rs2 imm) size regs memory held alone = refl
+alone_is_row thread (Load kind rd rs1 imm) size regs memory held alone = cc
+alone_is_row thread (Store width rs1 rs2 imm) size regs memory held alone = cc
+alone_is_row thread (OpImm op rd rs1 imm) size regs memory held alone = refl
+alone_is_row thread (Op op rd rs1 rs2) size regs memory held alone = refl
+alone_is_row thread (LoadReserved wide order rd rs1) size regs memory held alone = cc
+alone_is_row thread (StoreConditional wide order rd rs1 rs2) size regs memory held alone = cc
+alone_is_row thread (Amo op wide order rd rs1 rs2) size regs memory held alone = cc
+alone_is_row thread (Fence code rd rs1 imm) size regs memory held alone = refl
+alone_is_row thread Ecall size regs memory held alone = cc
+alone_is_row thread Ebreak size regs memory held alone = cc
+
+-- another leaves the registers
+pub else_stays : (instr : Instr) (size : ℕ) (regs : Regs) → is_alone instr ≡ false → regs_after instr size regs ≡ regs
+unfolding regs_after
+else_stays (Lui rd imm) size regs more = cc
+else_stays (Auipc rd imm) size regs more = cc
+else_stays (Jal rd imm) size regs more = cc
+else_stays (Jalr rd rs1 imm) size regs more = cc
+else_stays (Branch cmp rs1 rs2 imm) size regs more = cc
+else_stays (Load kind rd rs1 imm) size regs more = refl
+else_stays (Store width rs1 rs2 imm) size regs more = refl
+else_stays (OpImm op rd rs1 imm) size regs more = cc
+else_stays (Op op rd rs1 rs2) size regs more = cc
+else_stays (LoadReserved wide order rd rs1) size regs more = refl
+else_stays (StoreConditional wide order rd rs1 rs2) size regs more = refl
+else_stays (Amo op wide order rd rs1 rs2) size regs more = refl
+else_stays (Fence code rd rs1 imm) size regs more = cc
+else_stays Ecall size regs more = refl
+else_stays Ebreak size regs more = refl

@@ -1,7 +1,9 @@
 pub mod Due
+pub mod CodeFacts
 pub mod EffectFacts
 pub mod Noted
 pub mod KeptFacts
 pub mod GrowthFacts
 pub mod RunFacts
+pub mod AheadFacts
 pub mod StartFacts

@@ -2,6 +2,7 @@ pub mod Pending
 pub mod Instruction
 pub mod Machine
 pub mod Made
+pub mod Code
 pub mod Signals
 pub mod Call
 pub mod Rows
@@ -13,3 +14,4 @@ pub mod State
 pub mod Outcomes
 pub mod Runs
 pub mod Growth
+pub mod Ahead

@@ -1,22 +1,28 @@
 //! One instruction, found at pc, made, and its effect carried out.
 
-ghost use Rattle.std.specs.Prelude.{◌≡◌, ◌⊎◌, ◌+◌, ◌*◌, ◌<◌, ◌^◌, ℕ, List, IfOk, IfErr, OnOk, OnErr, true, Ok, Err, MatchResult};
+ghost use Rattle.std.specs.Prelude.{◌≡◌, ◌⊎◌, ◌+◌, ◌*◌, ◌<◌, ◌^◌, ℕ, List, IfSome, IfOk, IfErr, OnOk, OnErr, true, false, Ok, Err, MatchResult};
 ghost use Rattle.isa_compressed.specs.Expansion.{expansion};
 ghost use Rattle.isa_decode.specs.Listing.{decoding};
 ghost use Rattle.isa_decode.specs.Ranges.{InRange};
-ghost use Rattle.guest_core.specs.Instruction.{Found, Outcome, executed, is_or_illegal, combines, reserves, stores, stores_conditionally, breakpoint as breakpoint_at, fault_of_word as word_fault_of, found, half_at as half_word_at, illegal as illegal_at, instruction, load_size, loaded, loads, page_fault as page_fault_of, store_size};
+ghost use Rattle.guest_core.specs.Instruction.{Found, Outcome, of_found, executed, is_or_illegal, combines, reserves, stores, stores_conditionally, breakpoint as breakpoint_at, fault_of_word as word_fault_of, found, half_at as half_word_at, illegal as illegal_at, instruction, load_size, loaded, loads, page_fault as page_fault_of, store_size};
 ghost use Rattle.isa_exec.specs.Execution.{put};
+ghost use Rattle.byteorder.specs.Endian.{little_number};
+ghost use Rattle.guest_pages.specs.Faults.{answer_or, first_fault, readable};
+ghost use Rattle.guest_pages.specs.Operations.{bytes_at};
 ghost use Rattle.guest_pages.specs.Sizes.{size_of as bytes_of};
 ghost use Rattle.word_memory.specs.declared.reservations.Held.{Held};
+ghost use Rattle.guest_core.specs.Ahead.{IsPlain};
+ghost use Rattle.guest_core.specs.Code.{instruction_of_code};
 ghost use Rattle.guest_core.specs.Effects.{carried, HasRegister};
 ghost use Rattle.guest_core.specs.Made.{outcome};
 
+use crate::decoder::Decoder;
 use crate::queue::Fault;
 use crate::signal::SigNo;
 use guest_pages::{PageFault, Pages};
 use isa_compressed::expand;
 use isa_decode::{AmoOp, Instr, LoadKind, Width, decode};
-use isa_exec::{Effect, Regs, exec};
+use isa_exec::{Effect, Regs, address, exec, exec_alone};
 use word_memory::{Reservations, WordFault, amo, load_reserved, store_conditional};
 
 /// What an instruction came to.
@@ -476,6 +482,187 @@ pub fn make_instruction(
     match find(regs, memory) {
         Ok((instr, size)) => make(thread, &instr, size, regs, memory, held),
         Err(fault) => Err(fault),
+    }
+}
+
+/// Makes the thread's instruction at pc where it neither asks for a call nor faults, and tells whether it does; else all
+/// stays. It decodes only what isn't kept. It takes no memory, and constant time, but for the reservations of threads,
+/// which a store goes through.
+#[inline(always)]
+#[tactic(auto, unfolding(crate::specs::Instruction::instruction, crate::specs::Instruction::found))]
+pub(crate) fn make_plain(
+    thread: u32,
+    regs: &mut Regs,
+    memory: &mut Pages,
+    held: &mut Reservations,
+    decoder: &mut Decoder,
+) -> bool
+    ensures made { result ≡ true → instruction thread regs.old memory.old held.old ≡ Outcome.Runs regs.new memory.new held.new }
+    ensures stops { result ≡ false → IsPlain (instruction thread regs.old memory.old held.old) → ⊥ }
+    ensures stays { result ≡ false → (regs.new ≡ regs.old) × (memory.new ≡ memory.old) × (held.new ≡ held.old) }
+{
+    match memory.fetch_pair(regs.pc) {
+        Some((low, high)) => {
+            if low % 4 == 3 {
+                let code = u32::from(high) * 0x1_0000 + u32::from(low);
+                match decoder.kept(code) {
+                    Some(instr) => make_known(thread, instr, 4, regs, memory, held),
+                    None => make_new(thread, code, 4, regs, memory, held, decoder),
+                }
+            } else {
+                let code = u32::from(low);
+                match decoder.kept(code) {
+                    Some(instr) => make_known(thread, instr, 2, regs, memory, held),
+                    None => make_new(thread, code, 2, regs, memory, held, decoder),
+                }
+            }
+        }
+        None => make_apart(thread, regs, memory, held),
+    }
+}
+
+/// The same of an instruction of `size` bytes.
+#[inline(always)]
+#[tactic(auto, using(crate::proofs::EffectFacts::alone_is_row, crate::proofs::EffectFacts::else_stays), unfolding(crate::specs::Instruction::loads, crate::specs::Instruction::executed))]
+fn make_known(
+    thread: u32,
+    instr: &Instr,
+    size: u64,
+    regs: &mut Regs,
+    memory: &mut Pages,
+    held: &mut Reservations,
+) -> bool
+    requires range { InRange instr.now }
+    requires size { (size ≡ 2) ⊎ (size ≡ 4) }
+    ensures made { result ≡ true → executed thread instr.now size regs.old memory.old held.old ≡ Outcome.Runs regs.new memory.new held.new }
+    ensures stops { result ≡ false → IsPlain (executed thread instr.now size regs.old memory.old held.old) → ⊥ }
+    ensures stays { result ≡ false → (regs.new ≡ regs.old) × (memory.new ≡ memory.old) × (held.new ≡ held.old) }
+{
+    if let Instr::Load { kind, rd, rs1, imm } = *instr {
+        if let Some(value) = load_near(kind, address(regs, rs1, imm), memory) {
+            put(regs, rd, value, size);
+            return true;
+        }
+    }
+    if exec_alone(instr, size, regs) {
+        return true;
+    }
+    make_other(thread, instr, size, regs, memory, held)
+}
+
+/// What a register holds of a load whose bytes lie in one page and can be read. The kinds that programs use most go first,
+/// three at a time, since on many processors a jump by a table costs more than a few tests.
+#[inline(always)]
+fn load_near(kind: LoadKind, at: u64, memory: &Pages) -> Option<u64>
+    ensures { IfSome result (λ value. answer_or
+        (first_fault readable memory.now at (load_size kind))
+        (loaded kind (little_number (load_size kind) (bytes_at memory.now at (load_size kind)))) ≡ Ok value) }
+{
+    if let LoadKind::Ld = kind {
+        return memory.load_near(at, guest_pages::Width::Eight);
+    }
+    if let LoadKind::Lw = kind {
+        return match memory.load_near(at, guest_pages::Width::Four) {
+            Some(value) => Some(signed_word(value)),
+            None => None,
+        };
+    }
+    if let LoadKind::Lbu = kind {
+        return memory.load_near(at, guest_pages::Width::One);
+    }
+    load_half_near(kind, at, memory)
+}
+
+/// The same of half words.
+#[inline(never)]
+fn load_half_near(kind: LoadKind, at: u64, memory: &Pages) -> Option<u64>
+    ensures { IfSome result (λ value. answer_or
+        (first_fault readable memory.now at (load_size kind))
+        (loaded kind (little_number (load_size kind) (bytes_at memory.now at (load_size kind)))) ≡ Ok value) }
+{
+    if let LoadKind::Lhu = kind {
+        return memory.load_near(at, guest_pages::Width::Two);
+    }
+    if let LoadKind::Lh = kind {
+        return match memory.load_near(at, guest_pages::Width::Two) {
+            Some(value) => Some(signed_half(value)),
+            None => None,
+        };
+    }
+    load_any_near(kind, at, memory)
+}
+
+/// The same of any kind.
+#[inline(never)]
+fn load_any_near(kind: LoadKind, at: u64, memory: &Pages) -> Option<u64>
+    ensures { IfSome result (λ value. answer_or
+        (first_fault readable memory.now at (load_size kind))
+        (loaded kind (little_number (load_size kind) (bytes_at memory.now at (load_size kind)))) ≡ Ok value) }
+{
+    match memory.load_near(at, width_of_load(kind)) {
+        Some(value) => Some(fill(kind, value)),
+        None => None,
+    }
+}
+
+/// The same of any instruction.
+#[inline(never)]
+fn make_other(
+    thread: u32,
+    instr: &Instr,
+    size: u64,
+    regs: &mut Regs,
+    memory: &mut Pages,
+    held: &mut Reservations,
+) -> bool
+    requires range { InRange instr.now }
+    requires size { (size ≡ 2) ⊎ (size ≡ 4) }
+    ensures made { result ≡ true → executed thread instr.now size regs.old memory.old held.old ≡ Outcome.Runs regs.new memory.new held.new }
+    ensures stops { result ≡ false → IsPlain (executed thread instr.now size regs.old memory.old held.old) → ⊥ }
+    ensures stays { result ≡ false → (regs.new ≡ regs.old) × (memory.new ≡ memory.old) × (held.new ≡ held.old) }
+{
+    match make(thread, instr, size, regs, memory, held) {
+        Ok(Made::Done) => true,
+        Ok(Made::Call) => false,
+        Err(_) => false,
+    }
+}
+
+/// The same of an instruction of `size` bytes that isn't kept.
+#[cold]
+#[inline(never)]
+fn make_new(
+    thread: u32,
+    code: u32,
+    size: u64,
+    regs: &mut Regs,
+    memory: &mut Pages,
+    held: &mut Reservations,
+    decoder: &mut Decoder,
+) -> bool
+    requires size { (size ≡ 2) ⊎ (size ≡ 4) }
+    ensures made { result ≡ true → of_found thread (is_or_illegal regs.old.pc size (instruction_of_code code)) regs.old memory.old held.old ≡ Outcome.Runs regs.new memory.new held.new }
+    ensures stops { result ≡ false → IsPlain (of_found thread (is_or_illegal regs.old.pc size (instruction_of_code code)) regs.old memory.old held.old) → ⊥ }
+    ensures stays { result ≡ false → (regs.new ≡ regs.old) × (memory.new ≡ memory.old) × (held.new ≡ held.old) }
+{
+    match decoder.decoded(code) {
+        Some(instr) => make_other(thread, &instr, size, regs, memory, held),
+        None => false,
+    }
+}
+
+/// The same where the code doesn't lie in one page, or can't be executed.
+#[cold]
+#[inline(never)]
+fn make_apart(thread: u32, regs: &mut Regs, memory: &mut Pages, held: &mut Reservations) -> bool
+    ensures made { result ≡ true → instruction thread regs.old memory.old held.old ≡ Outcome.Runs regs.new memory.new held.new }
+    ensures stops { result ≡ false → IsPlain (instruction thread regs.old memory.old held.old) → ⊥ }
+    ensures stays { result ≡ false → (regs.new ≡ regs.old) × (memory.new ≡ memory.old) × (held.new ≡ held.old) }
+{
+    match make_instruction(thread, regs, memory, held) {
+        Ok(Made::Done) => true,
+        Ok(Made::Call) => false,
+        Err(_) => false,
     }
 }
 

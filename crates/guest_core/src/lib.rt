@@ -39,6 +39,7 @@
 #![tactic(auto)]
 
 mod calls;
+mod decoder;
 mod ends;
 mod events;
 mod executing;

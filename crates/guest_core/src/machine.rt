@@ -1,6 +1,8 @@
-ghost use Rattle.std.specs.Prelude.{◌≡◌, ◌<◌, [], None, Some, length, take, slice_get, slice_index_or, is_none, ◌==◌, if◌then◌else◌, OnOk, OnErr, IfErr, IfSome, IsOk};
+ghost use Rattle.std.specs.Prelude.{◌≡◌, ◌≤◌, ◌<◌, replicate, [], None, Some, length, take, slice_get, slice_index_or, is_none, ◌==◌, if◌then◌else◌, OnOk, OnErr, IfErr, IfSome, IsOk};
 ghost use Rattle.std.specs.Option.{option_copied};
 ghost use Rattle.guest_core.specs.Event.{is_enabled, event_after, run};
+ghost use Rattle.guest_core.specs.Ahead.{GoesOn};
+ghost use Rattle.guest_core.specs.Machine.{first_thread};
 ghost use Rattle.guest_core.specs.Runs.{TakesNoMemory, Stopped};
 ghost use Rattle.guest_core.specs.Growth.{lengthens, Lengthened};
 
@@ -84,6 +86,22 @@ impl Core {
             Ok(()) => Ok(()),
             Err(_) => Err(CoreRefusal::Memory),
         }
+    }
+
+    /// Makes steps of the thread that make an instruction, at most `limit`, up to the first that asks for a call, faults
+    /// or does something else, and tells how many it made. It takes no memory, and constant time for each instruction,
+    /// but for the reservations of threads, which a store goes through.
+    pub fn run_on(&mut self, limit: u32) -> u32
+        ensures most { result ≤ limit }
+        ensures ran { run (Some self.old) (replicate result (Event.Step first_thread)) ≡ Some self.new }
+        ensures stops { result < limit → GoesOn self.new → ⊥ }
+        ensures outputs { self.new.shared.outputs ≡ self.old.shared.outputs }
+        ensures end { self.new.end ≡ self.old.end }
+    {
+        if !self.state.is_ready() {
+            return 0;
+        }
+        self.state.run_on(limit)
     }
 
     /// Makes events up to the first that is refused, whose index is told with its refusal. The state is that before

@@ -1,14 +1,18 @@
 //! The rows of a thread's step, each a function.
 
-ghost use Rattle.std.specs.Prelude.{◌≡◌, ◌≢◌, ◌+◌, ◌<◌, ◌^◌, [], false, Some, None, OnOk, OnErr, IsOk};
+ghost use Rattle.std.specs.Prelude.{◌≡◌, ◌≢◌, ◌+◌, ◌≤◌, ◌<◌, replicate, ◌^◌, [], true, false, Some, None, OnOk, OnErr, IsOk};
 ghost use Rattle.guest_core.specs.Pending.{first_new, first_of};
 ghost use Rattle.guest_core.specs.Rows.{noted, taken, flag_cleared, executed, checked, entered, returned, done, flagged_row, stepped, ticked, instruction_of, IsSteady};
+ghost use Rattle.guest_core.specs.Ahead.{IsReady, IsPlain};
+ghost use Rattle.guest_core.specs.Event.{event_after, run};
+ghost use Rattle.guest_core.specs.Machine.{first_thread};
 ghost use Rattle.guest_core.specs.State.{machine};
 ghost use Rattle.guest_core.specs.Instruction.{IsFaultless};
 
 use crate::calls::Outcome;
 use crate::ends::End;
-use crate::executing::{Made, make_instruction};
+use crate::events::Event;
+use crate::executing::{Made, make_instruction, make_plain};
 use crate::machine::FIRST_THREAD;
 use crate::places::Place;
 use crate::queue::{Fault, Instance};
@@ -93,6 +97,69 @@ impl State {
             }
             Err(fault) => self.host.pending.send_forced(fault),
         }
+    }
+
+    /// Whether the process lives and its next step is an instruction's.
+    #[tactic(auto, using(crate::proofs::AheadFacts::ready_is, crate::proofs::AheadFacts::is_ready))]
+    pub fn is_ready(&self) -> bool
+        ensures yes { result ≡ true → IsReady (machine self.now) }
+        ensures no { IsReady (machine self.now) → result ≡ true }
+    {
+        if self.end.is_some() {
+            return false;
+        }
+        if self.flag {
+            return false;
+        }
+        match self.place {
+            Place::Loop => match self.host.pending.first_new() {
+                None => true,
+                Some(_) => false,
+            },
+            Place::Start => false,
+            Place::Window => false,
+            Place::Done(_) => false,
+        }
+    }
+
+    /// Makes the next instruction, if it neither asks for a call nor faults; else the state stays.
+    #[inline(always)]
+    fn go_on(&mut self) -> bool
+        requires { IsReady (machine self.old) }
+        ensures made { result ≡ true → event_after (machine self.old) (Event.Step first_thread) ≡ Some (machine self.new) }
+        ensures ready { IsReady (machine self.new) }
+        ensures stays { result ≡ false → machine self.new ≡ machine self.old }
+        ensures stops { result ≡ false → IsPlain (instruction_of (machine self.old)) → ⊥ }
+        ensures outputs { (machine self.new).shared.outputs ≡ (machine self.old).shared.outputs }
+    {
+        if !make_plain(
+            FIRST_THREAD,
+            &mut self.regs,
+            &mut self.host.memory,
+            &mut self.host.held,
+            &mut self.decoder,
+        ) {
+            return false;
+        }
+        self.tick();
+        true
+    }
+
+    /// Makes instructions, at most so many, up to the first that asks for a call or faults, and tells how many it made.
+    pub fn run_on(&mut self, limit: u32) -> u32
+        requires { IsReady (machine self.old) }
+        ensures most { result ≤ limit }
+        ensures ran { run (Some (machine self.old)) (replicate result (Event.Step first_thread)) ≡ Some (machine self.new) }
+        ensures ready { IsReady (machine self.new) }
+        ensures stops { result < limit → IsPlain (instruction_of (machine self.new)) → ⊥ }
+        ensures outputs { (machine self.new).shared.outputs ≡ (machine self.old).shared.outputs }
+    {
+        for made in 0..limit {
+            if !self.go_on() {
+                return made;
+            }
+        }
+        limit
     }
 
     /// The host is entered.

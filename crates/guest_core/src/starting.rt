@@ -3,6 +3,7 @@ ghost use Rattle.elf_file.specs.Reading.{image, segment_image};
 ghost use Rattle.guest_core.specs.Start.{started, loaded, page_count, Starts};
 ghost use Rattle.guest_core.specs.State.{machine};
 
+use crate::decoder::Decoder;
 use crate::machine::{Core, FIRST_THREAD};
 use crate::output::Outputs;
 use crate::places::Place;
@@ -67,6 +68,7 @@ fn state_of(alloc: Global, elf: &Elf, devices: usize) -> Result<State, AllocErro
     let mut held = Reservations::new(alloc);
     held.add_thread(FIRST_THREAD)?;
     let outputs = Outputs::new(alloc, devices)?;
+    let decoder = Decoder::new(alloc)?;
     Ok(State {
         host: Host {
             memory,
@@ -75,6 +77,7 @@ fn state_of(alloc: Global, elf: &Elf, devices: usize) -> Result<State, AllocErro
             pending: Pending::new(),
             clock: 0,
         },
+        decoder,
         regs: Regs {
             pc: elf.entry,
             x: [0; 32],

@@ -1,3 +1,4 @@
+use crate::decoder::Decoder;
 use crate::ends::End;
 use crate::output::Outputs;
 use crate::places::Place;
@@ -21,6 +22,7 @@ pub struct Host {
 #[derive(Drop)]
 pub struct State {
     pub host: Host,
+    pub decoder: Decoder,
     pub regs: Regs,
     pub place: Place,
     pub flag: bool,

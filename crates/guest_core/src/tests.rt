@@ -53,3 +53,26 @@ fn a_run_up_to_its_end(rt: HostRuntime) -> Result<(), Fail> {
     }
     Ok(())
 }
+
+#[test]
+fn a_run_ahead_stops_before_the_call(rt: HostRuntime) -> Result<(), Fail> {
+    let mut core = started(rt.alloc())?;
+    assert_eq!(rt; core.run_on(1), 1);
+    assert_eq!(rt; core.run_on(10), 1);
+    match core.regs(FIRST_THREAD) {
+        Some(regs) => {
+            assert_eq!(rt; regs.pc, 0x10080);
+            assert_eq!(rt; regs.register(10), 7);
+            assert_eq!(rt; regs.register(17), 94);
+        }
+        None => assert!(rt; false),
+    }
+    assert_eq!(rt; core.run_on(10), 0);
+    // the call has a place of its own, and nothing is made ahead there
+    assert_eq!(rt; core.run_events(&[STEP]), Ok(()));
+    assert_eq!(rt; core.run_on(10), 0);
+    assert_eq!(rt; core.run_events(&[STEP, STEP]), Ok(()));
+    assert!(rt; matches!(core.ended(), Some(End::Exit(7))));
+    assert_eq!(rt; core.run_on(10), 0);
+    Ok(())
+}

@@ -159,3 +159,24 @@ fn half_words_of_code_by_one_look_up(rt: HostRuntime) -> Result<(), Fail> {
     assert_eq!(rt; pages.fetch(0x1FFE), Ok(0x8082));
     Ok(())
 }
+
+#[test]
+fn numbers_by_one_look_up(rt: HostRuntime) -> Result<(), Fail> {
+    let mut pages = Pages::new();
+    pages.map(rt.alloc(), 0x1000, 2, BOTH)?;
+    assert_eq!(rt;
+        pages.store(0x1FF8, Width::Eight, 0x1122_3344_5566_7788),
+        Ok(())
+    );
+    assert_eq!(rt;
+        pages.load_near(0x1FF8, Width::Eight),
+        Some(0x1122_3344_5566_7788)
+    );
+    assert_eq!(rt; pages.load_near(0x1FFC, Width::Four), Some(0x1122_3344));
+    // in two pages, not mapped, and without the right
+    assert_eq!(rt; pages.load_near(0x1FFC, Width::Eight), None);
+    assert_eq!(rt; pages.load_near(0x3000, Width::One), None);
+    pages.protect(rt.alloc(), 0x1000, 1, CODE)?;
+    assert_eq!(rt; pages.load_near(0x1FF8, Width::Eight), None);
+    Ok(())
+}

@@ -1,7 +1,7 @@
 -- What an instruction asks for, and the registers after one that asks for nothing else. An instruction that asks for more
 -- leaves the registers.
 -- Source: the RISC-V unprivileged manual, "RV32I", "RV64I", "M", "A" and "Zifencei".
-use Rattle.std.specs.Prelude.{ℕ, ◌+◌, ◌-◌, ◌%◌, ◌^◌, if◌then◌else◌, ℤ}
+use Rattle.std.specs.Prelude.{ℕ, ◌+◌, ◌-◌, ◌%◌, ◌^◌, Bool, true, false, if◌then◌else◌, ℤ}
 use Rattle.isa_decode.specs.declared.instruction.Instr.{Instr}
 use Rattle.isa_decode.specs.declared.instruction.Instr.TheVariants as instr
 use Rattle.isa_exec.specs.declared.effect.Effect.{Effect}
@@ -32,6 +32,24 @@ effect_of (instr.Amo op wide order rd rs1 rs2) regs = effect.Amo rd op wide (reg
 effect_of (instr.Fence code rd rs1 imm) regs = effect.Next
 effect_of instr.Ecall regs = effect.Call
 effect_of instr.Ebreak regs = effect.Break
+
+-- the instruction asks for nothing but registers
+abbrev pub is_alone : Instr → Bool
+is_alone (instr.Lui rd imm) = true
+is_alone (instr.Auipc rd imm) = true
+is_alone (instr.Jal rd imm) = true
+is_alone (instr.Jalr rd rs1 imm) = true
+is_alone (instr.Branch cmp rs1 rs2 imm) = true
+is_alone (instr.Load kind rd rs1 imm) = false
+is_alone (instr.Store width rs1 rs2 imm) = false
+is_alone (instr.OpImm op rd rs1 imm) = true
+is_alone (instr.Op op rd rs1 rs2) = true
+is_alone (instr.LoadReserved wide order rd rs1) = false
+is_alone (instr.StoreConditional wide order rd rs1 rs2) = false
+is_alone (instr.Amo op wide order rd rs1 rs2) = false
+is_alone (instr.Fence code rd rs1 imm) = true
+is_alone instr.Ecall = false
+is_alone instr.Ebreak = false
 
 -- the value goes into rd, and the program goes on behind the instruction
 abbrev pub put : ℕ → ℕ → ℕ → Regs → Regs

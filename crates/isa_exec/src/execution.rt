@@ -1,53 +1,44 @@
-ghost use Rattle.std.specs.Prelude.{◌≡◌, ◌<◌, ◌≤◌, ◌⊎◌};
+ghost use Rattle.std.specs.Prelude.{◌≡◌, ◌<◌, ◌≤◌, ◌⊎◌, true};
 ghost use Rattle.isa_decode.specs.Ranges.{InRange};
-ghost use Rattle.isa_exec.specs.Execution.{effect_of, even, linked, put, regs_after};
+ghost use Rattle.isa_exec.specs.Execution.{effect_of, even, is_alone, linked, put, regs_after};
 ghost use Rattle.isa_exec.specs.Execution.{address as address_of};
 
 use crate::arithmetic::{calculate, holds, register_form};
 use crate::effect::Effect;
 use crate::registers::Regs;
-use isa_decode::Instr;
+use isa_decode::{AluOp, Cmp, ImmOp, Instr};
 
 /// Makes the instruction, of `size` bytes (2 or 4), as far as registers go: after `Next` and `Jump` the registers are
 /// final, otherwise they are unchanged and the effect says what is asked for. It takes no memory, and constant time.
 ///
 /// References: the RISC-V unprivileged manual, "RV32I", "RV64I", "M", "A" and "Zifencei".
 #[inline]
-#[tactic(auto, unfolding(crate::specs::Execution::regs_after))]
 pub fn exec(instr: &Instr, size: u64, regs: &mut Regs) -> Effect
     requires range { InRange instr.now }
     requires size { (size ≡ 2) ⊎ (size ≡ 4) }
     ensures effect { result ≡ effect_of instr.now regs.old }
     ensures regs { regs.new ≡ regs_after instr.now size regs.old }
 {
+    let effect = effect_of(instr, regs);
+    let _ = exec_alone(instr, size, regs);
+    effect
+}
+
+/// What the instruction asks for.
+#[inline]
+fn effect_of(instr: &Instr, regs: &Regs) -> Effect
+    requires { InRange instr.now }
+    ensures { result ≡ effect_of instr.now regs.now }
+{
     match *instr {
-        Instr::Lui { rd, imm } => {
-            put(regs, rd, imm.cast_unsigned(), size);
-            Effect::Next
-        }
-        Instr::Auipc { rd, imm } => {
-            let value = regs.behind(imm.cast_unsigned());
-            put(regs, rd, value, size);
-            Effect::Next
-        }
-        Instr::Jal { rd, imm } => {
-            let target = regs.behind(imm.cast_unsigned());
-            link(regs, rd, target, size);
-            Effect::Jump
-        }
-        Instr::Jalr { rd, rs1, imm } => {
-            let target = address(regs, rs1, imm);
-            link(regs, rd, target - target % 2, size);
-            Effect::Jump
-        }
-        Instr::Branch { cmp, rs1, rs2, imm } => {
+        Instr::Lui { .. } => Effect::Next,
+        Instr::Auipc { .. } => Effect::Next,
+        Instr::Jal { .. } => Effect::Jump,
+        Instr::Jalr { .. } => Effect::Jump,
+        Instr::Branch { cmp, rs1, rs2, .. } => {
             if holds(cmp, regs.register(rs1), regs.register(rs2)) {
-                let target = regs.behind(imm.cast_unsigned());
-                regs.go_on_at(target);
                 Effect::Jump
             } else {
-                let next = regs.behind(size);
-                regs.go_on_at(next);
                 Effect::Next
             }
         }
@@ -68,32 +59,19 @@ pub fn exec(instr: &Instr, size: u64, regs: &mut Regs) -> Effect
                 value: regs.register(rs2),
             }
         }
-        Instr::OpImm { op, rd, rs1, imm } => {
-            let value = calculate(register_form(op), regs.register(rs1), imm.cast_unsigned());
-            put(regs, rd, value, size);
-            Effect::Next
-        }
-        Instr::Op { op, rd, rs1, rs2 } => {
-            let value = calculate(op, regs.register(rs1), regs.register(rs2));
-            put(regs, rd, value, size);
-            Effect::Next
-        }
-        Instr::LoadReserved {
-            wide,
-            order: _,
-            rd,
-            rs1,
-        } => Effect::Reserve {
+        Instr::OpImm { .. } => Effect::Next,
+        Instr::Op { .. } => Effect::Next,
+        Instr::LoadReserved { wide, rd, rs1, .. } => Effect::Reserve {
             rd,
             wide,
             at: regs.register(rs1),
         },
         Instr::StoreConditional {
             wide,
-            order: _,
             rd,
             rs1,
             rs2,
+            ..
         } => {
             Effect::Conditional {
                 rd,
@@ -105,10 +83,10 @@ pub fn exec(instr: &Instr, size: u64, regs: &mut Regs) -> Effect
         Instr::Amo {
             op,
             wide,
-            order: _,
             rd,
             rs1,
             rs2,
+            ..
         } => {
             Effect::Amo {
                 rd,
@@ -118,24 +96,161 @@ pub fn exec(instr: &Instr, size: u64, regs: &mut Regs) -> Effect
                 value: regs.register(rs2),
             }
         }
-        Instr::Fence {
-            code: _,
-            rd: _,
-            rs1: _,
-            imm: _,
-        } => {
-            let next = regs.behind(size);
-            regs.go_on_at(next);
-            Effect::Next
-        }
+        Instr::Fence { .. } => Effect::Next,
         Instr::Ecall => Effect::Call,
         Instr::Ebreak => Effect::Break,
     }
 }
 
+/// Makes the instruction, of `size` bytes (2 or 4), where it asks for nothing but registers, and tells whether it does.
+/// Else the registers stay. It takes no memory, and constant time. The forms that programs use most are looked for first,
+/// a few at a time, since on many processors a jump by a table costs more than a few tests.
+///
+/// References: the RISC-V unprivileged manual, "RV32I", "RV64I" and "M".
+#[inline(always)]
+pub fn exec_alone(instr: &Instr, size: u64, regs: &mut Regs) -> bool
+    requires range { InRange instr.now }
+    requires size { (size ≡ 2) ⊎ (size ≡ 4) }
+    ensures alone { result ≡ is_alone instr.now }
+    ensures regs { regs.new ≡ regs_after instr.now size regs.old }
+{
+    if let Instr::OpImm { op, rd, rs1, imm } = *instr {
+        return operate_on_immediate(op, rd, rs1, imm, size, regs);
+    }
+    if let Instr::Op { op, rd, rs1, rs2 } = *instr {
+        return operate(op, rd, rs1, rs2, size, regs);
+    }
+    exec_jump(instr, size, regs)
+}
+
+/// The same, where branches and jumps go first.
+#[inline(never)]
+fn exec_jump(instr: &Instr, size: u64, regs: &mut Regs) -> bool
+    requires range { InRange instr.now }
+    requires size { (size ≡ 2) ⊎ (size ≡ 4) }
+    ensures alone { result ≡ is_alone instr.now }
+    ensures regs { regs.new ≡ regs_after instr.now size regs.old }
+{
+    if let Instr::Branch { cmp, rs1, rs2, imm } = *instr {
+        return branch(cmp, rs1, rs2, imm, size, regs);
+    }
+    if let Instr::Jal { rd, imm } = *instr {
+        return jump(rd, imm, size, regs);
+    }
+    if let Instr::Jalr { rd, rs1, imm } = *instr {
+        return jump_to_register(rd, rs1, imm, size, regs);
+    }
+    exec_any(instr, size, regs)
+}
+
+/// The same of any instruction.
+#[inline(never)]
+#[tactic(auto, unfolding(crate::specs::Execution::regs_after))]
+fn exec_any(instr: &Instr, size: u64, regs: &mut Regs) -> bool
+    requires range { InRange instr.now }
+    requires size { (size ≡ 2) ⊎ (size ≡ 4) }
+    ensures alone { result ≡ is_alone instr.now }
+    ensures regs { regs.new ≡ regs_after instr.now size regs.old }
+{
+    match *instr {
+        Instr::Lui { rd, imm } => {
+            put(regs, rd, imm.cast_unsigned(), size);
+            true
+        }
+        Instr::Auipc { rd, imm } => {
+            let value = regs.behind(imm.cast_unsigned());
+            put(regs, rd, value, size);
+            true
+        }
+        Instr::Jal { rd, imm } => jump(rd, imm, size, regs),
+        Instr::Jalr { rd, rs1, imm } => jump_to_register(rd, rs1, imm, size, regs),
+        Instr::Branch { cmp, rs1, rs2, imm } => branch(cmp, rs1, rs2, imm, size, regs),
+        Instr::OpImm { op, rd, rs1, imm } => operate_on_immediate(op, rd, rs1, imm, size, regs),
+        Instr::Op { op, rd, rs1, rs2 } => operate(op, rd, rs1, rs2, size, regs),
+        Instr::Fence { .. } => {
+            let next = regs.behind(size);
+            regs.go_on_at(next);
+            true
+        }
+        Instr::Load { .. } => false,
+        Instr::Store { .. } => false,
+        Instr::LoadReserved { .. } => false,
+        Instr::StoreConditional { .. } => false,
+        Instr::Amo { .. } => false,
+        Instr::Ecall => false,
+        Instr::Ebreak => false,
+    }
+}
+
+#[inline(always)]
+#[tactic(auto, unfolding(crate::specs::Execution::regs_after))]
+fn operate(op: AluOp, rd: u8, rs1: u8, rs2: u8, size: u64, regs: &mut Regs) -> bool
+    requires rd { rd < 32 }
+    requires rs1 { rs1 < 32 }
+    requires rs2 { rs2 < 32 }
+    ensures made { result ≡ true }
+    ensures regs { regs.new ≡ regs_after (Instr.Op op rd rs1 rs2) size regs.old }
+{
+    let value = calculate(op, regs.register(rs1), regs.register(rs2));
+    put(regs, rd, value, size);
+    true
+}
+
+#[inline(always)]
+#[tactic(auto, unfolding(crate::specs::Execution::regs_after))]
+fn operate_on_immediate(op: ImmOp, rd: u8, rs1: u8, imm: i64, size: u64, regs: &mut Regs) -> bool
+    requires rd { rd < 32 }
+    requires rs1 { rs1 < 32 }
+    ensures made { result ≡ true }
+    ensures regs { regs.new ≡ regs_after (Instr.OpImm op rd rs1 imm) size regs.old }
+{
+    let value = calculate(register_form(op), regs.register(rs1), imm.cast_unsigned());
+    put(regs, rd, value, size);
+    true
+}
+
+#[inline(always)]
+#[tactic(auto, unfolding(crate::specs::Execution::regs_after))]
+fn branch(cmp: Cmp, rs1: u8, rs2: u8, imm: i64, size: u64, regs: &mut Regs) -> bool
+    requires rs1 { rs1 < 32 }
+    requires rs2 { rs2 < 32 }
+    ensures made { result ≡ true }
+    ensures regs { regs.new ≡ regs_after (Instr.Branch cmp rs1 rs2 imm) size regs.old }
+{
+    let taken = holds(cmp, regs.register(rs1), regs.register(rs2));
+    let target = regs.behind(if taken { imm.cast_unsigned() } else { size });
+    regs.go_on_at(target);
+    true
+}
+
+#[inline(always)]
+#[tactic(auto, unfolding(crate::specs::Execution::regs_after))]
+fn jump(rd: u8, imm: i64, size: u64, regs: &mut Regs) -> bool
+    requires { rd < 32 }
+    ensures made { result ≡ true }
+    ensures regs { regs.new ≡ regs_after (Instr.Jal rd imm) size regs.old }
+{
+    let target = regs.behind(imm.cast_unsigned());
+    link(regs, rd, target, size);
+    true
+}
+
+#[inline(always)]
+#[tactic(auto, unfolding(crate::specs::Execution::regs_after))]
+fn jump_to_register(rd: u8, rs1: u8, imm: i64, size: u64, regs: &mut Regs) -> bool
+    requires rd { rd < 32 }
+    requires rs1 { rs1 < 32 }
+    ensures made { result ≡ true }
+    ensures regs { regs.new ≡ regs_after (Instr.Jalr rd rs1 imm) size regs.old }
+{
+    let target = address(regs, rs1, imm);
+    link(regs, rd, target - target % 2, size);
+    true
+}
+
 /// The address that a register and an offset give, modulo 2^64.
 #[inline]
-fn address(regs: &Regs, rs1: u8, imm: i64) -> u64
+pub fn address(regs: &Regs, rs1: u8, imm: i64) -> u64
     requires { rs1 < 32 }
     ensures { result ≡ address_of regs.now rs1 imm }
 {

@@ -794,3 +794,36 @@ fn requests_leave_the_registers(rt: HostRuntime) {
         }
     }
 }
+
+#[test]
+fn instructions_on_registers_alone(rt: HostRuntime) {
+    let table = [
+        (by_register(AluOp::Add, 10, 10, 11), true, 0x1_0004, 10),
+        (by_register(AluOp::Remu, 10, 10, 11), true, 0x1_0004, 1),
+        (by_immediate(ImmOp::Sraiw, 10, 10, 1), true, 0x1_0004, 3),
+        (branch(Cmp::Bgeu, 10, 11, -8), true, 0xFFF8, 7),
+        (jal(10, 8), true, 0x1_0008, 0x1_0004),
+        (jalr(10, 11, 5), true, 8, 0x1_0004),
+        (lui(10, 4096), true, 0x1_0004, 4096),
+        (fence(false, 0, 0, 0), true, 0x1_0004, 7),
+        (Instr::Ecall, false, 0x1_0000, 7),
+        (
+            Instr::Load {
+                kind: LoadKind::Ld,
+                rd: 10,
+                rs1: 11,
+                imm: 0,
+            },
+            false,
+            0x1_0000,
+            7,
+        ),
+    ];
+    for (instr, alone, next, value) in table {
+        assert!(rt; is_in_range(&instr), "{instr:?}");
+        let mut regs = holding(0x1_0000, 7, 3);
+        assert_eq!(rt; exec_alone(&instr, 4, &mut regs), alone, "{instr:?}");
+        assert_eq!(rt; regs.pc, next, "pc of {instr:?}");
+        assert_eq!(rt; regs.x[10], value, "{instr:?}");
+    }
+}

@@ -53,13 +53,29 @@ impl Pages {
             (first_fault readable self.now at (size_of width))
             (little_number (size_of width) (bytes_at self.now at (size_of width))) }
     {
-        let place = (at % 4096) as usize;
-        if place + width.size() <= 4096 {
-            if let Some(bytes) = bytes_of(rows(&self.tables), at / 4096, READABLE) {
-                return Ok(number_at(bytes, place, width));
-            }
+        match self.load_near(at, width) {
+            Some(value) => Ok(value),
+            None => self.load_apart(at, width),
         }
-        self.load_apart(at, width)
+    }
+
+    /// The same by one look-up, where the bytes lie in one page and can be read. There is none where they don't.
+    #[inline(always)]
+    pub fn load_near(&self, at: u64, width: Width) -> Option<u64>
+        ensures value { IfSome result (λ value. answer_or
+            (first_fault readable self.now at (size_of width))
+            (little_number (size_of width) (bytes_at self.now at (size_of width))) ≡ Ok value) }
+        ensures place { IfSome result (λ value. at % 4096 + size_of width ≤ 4096) }
+        ensures none { at % 4096 + size_of width ≤ 4096 → first_fault readable self.now at (size_of width) ≡ None → IsSome result }
+    {
+        let place = (at % 4096) as usize;
+        if place + width.size() > 4096 {
+            return None;
+        }
+        match bytes_of(rows(&self.tables), at / 4096, READABLE) {
+            Some(bytes) => Some(number_at(bytes, place, width)),
+            None => None,
+        }
     }
 
     /// The same for bytes that lie in two pages, or that can't be read.

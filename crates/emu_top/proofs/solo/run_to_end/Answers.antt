@@ -1,36 +1,73 @@
-use Rattle.emu_top.proofs.RunFacts.{SoFar, ran_more, count_more, sent_on, fell_on, stopped_at}
-use Rattle.std.proofs.Common.{◌<◌, map, ◌∙◌, arith}
+use Rattle.std.proofs.Common.{◌<◌, ◌≤◌, ◌+◌, ◌-◌, length, arith}
+use Rattle.emu_top.proofs.RunFacts.{SoFar, Turned, ahead_longer, so_far_ahead, so_far_turned, stopped_at, stopped_here, turned_longer}
 use Rattle.emu_top.proofs.solo.run_to_end.Goals as goal
-
-pub loop-preserved : goal.loop-preserved
-loop-preserved g c =
-    let first = c.args.run.now in
-    let now = c.loop.run in
-    let next = c.turn.new.run in
-    let so_far = c.loop.invariant in
-    record {
-      ran = ran_more first now next so_far.ran c.in-Ok.ensures.stepped;
-      count = count_more now next c.loop.counter so_far.count c.in-Ok.ensures.stepped;
-      budget = c.in-Ok.ensures.budget ∙ so_far.budget;
-      sent = sent_on g.D.Device.held first now next so_far.outputs so_far.sent c.in-Ok.ensures.sent;
-      devices = c.in-Ok.ensures.devices ∙ so_far.devices;
-      outputs = c.in-Ok.ensures.outputs ∙ so_far.outputs;
-      none_fell = fell_on (map g.D.Device.failed_writes first.devices.items) (map g.D.Device.failed_writes now.devices.items) (map g.D.Device.failed_writes next.devices.items) so_far.none_fell c.in-Ok.ensures.none_fell;
-    }
 
 pub returns-in-Err-clause-stopped : goal.returns-in-Err-clause-stopped
 returns-in-Err-clause-stopped g c =
     let first = c.args.run.now in
     let now = c.loop.run in
-    let next = c.turn.new.run in
-    let so_far : SoFar g.D.Device.held g.D.Device.failed_writes first now c.loop.counter = record {
+    let so_far : SoFar g.D.Device.held g.D.Device.failed_writes first now = record {
       ran = c.loop.invariant.ran;
-      count = c.loop.invariant.count;
+      within = c.loop.invariant.within;
       budget = c.loop.invariant.budget;
       sent = c.loop.invariant.sent;
       devices = c.loop.invariant.devices;
       outputs = c.loop.invariant.outputs;
       none_fell = c.loop.invariant.none_fell;
     } in
-    let more : c.loop.counter < first.journal.budget = omega (arith, c.loop-test.true, c.budget-end.ensures) in
-    stopped_at g.D.Device.held g.D.Device.failed_writes c.in-Err.halt first now next c.loop.counter so_far more c.in-Err.ensures.budget c.in-Err.ensures.halted
+    let room : length now.journal.events + (c.budget.result - c.count.result - 1) ≤ first.journal.budget = omega (arith, c.loop.invariant.within, c.loop.invariant.budget, c.budget.ensures, c.count.ensures, c.if-left-eq0.false) in
+    stopped_here g.D.Device.held g.D.Device.failed_writes first c.go_ahead.new.run (so_far_ahead g.D.Device.held g.D.Device.failed_writes first now c.go_ahead.new.run _ so_far c.go_ahead.ensures room)
+
+pub returns-in-Err-turn-clause-stopped : goal.returns-in-Err-turn-clause-stopped
+returns-in-Err-turn-clause-stopped g c =
+    let first = c.args.run.now in
+    let now = c.loop.run in
+    let so_far : SoFar g.D.Device.held g.D.Device.failed_writes first now = record {
+      ran = c.loop.invariant.ran;
+      within = c.loop.invariant.within;
+      budget = c.loop.invariant.budget;
+      sent = c.loop.invariant.sent;
+      devices = c.loop.invariant.devices;
+      outputs = c.loop.invariant.outputs;
+      none_fell = c.loop.invariant.none_fell;
+    } in
+    let room : length now.journal.events + (c.budget.result - c.count.result - 1) ≤ first.journal.budget = omega (arith, c.loop.invariant.within, c.loop.invariant.budget, c.budget.ensures, c.count.ensures, c.if-left-eq0.false) in
+    let ahead = so_far_ahead g.D.Device.held g.D.Device.failed_writes first now c.go_ahead.new.run _ so_far c.go_ahead.ensures room in
+    let more : length c.go_ahead.new.run.journal.events < first.journal.budget = omega (arith, c.go_ahead.ensures.few, c.loop.invariant.within, c.loop.invariant.budget, c.budget.ensures, c.count.ensures, c.if-left-eq0.false) in
+    stopped_at g.D.Device.held g.D.Device.failed_writes c.in-Err-turn.halt first c.go_ahead.new.run c.turn.new.run ahead more c.in-Err-turn.ensures.budget c.in-Err-turn.ensures.halted
+
+pub loop-preserved : goal.loop-preserved
+loop-preserved g c =
+    let first = c.args.run.now in
+    let now = c.loop.run in
+    let so_far : SoFar g.D.Device.held g.D.Device.failed_writes first now = record {
+      ran = c.loop.invariant.ran;
+      within = c.loop.invariant.within;
+      budget = c.loop.invariant.budget;
+      sent = c.loop.invariant.sent;
+      devices = c.loop.invariant.devices;
+      outputs = c.loop.invariant.outputs;
+      none_fell = c.loop.invariant.none_fell;
+    } in
+    let room : length now.journal.events + (c.budget.result - c.count.result - 1) ≤ first.journal.budget = omega (arith, c.loop.invariant.within, c.loop.invariant.budget, c.budget.ensures, c.count.ensures, c.if-left-eq0.false) in
+    let ahead = so_far_ahead g.D.Device.held g.D.Device.failed_writes first now c.go_ahead.new.run _ so_far c.go_ahead.ensures room in
+    let more : length c.go_ahead.new.run.journal.events < first.journal.budget = omega (arith, c.go_ahead.ensures.few, c.loop.invariant.within, c.loop.invariant.budget, c.budget.ensures, c.count.ensures, c.if-left-eq0.false) in
+    let turned : Turned g.D.Device.held g.D.Device.failed_writes c.go_ahead.new.run c.turn.new.run = record {
+      stepped = c.in-Ok-turn.ensures.stepped;
+      sent = c.in-Ok-turn.ensures.sent;
+      budget = c.in-Ok-turn.ensures.budget;
+      devices = c.in-Ok-turn.ensures.devices;
+      outputs = c.in-Ok-turn.ensures.outputs;
+      none_fell = c.in-Ok-turn.ensures.none_fell;
+    } in
+    let next = so_far_turned g.D.Device.held g.D.Device.failed_writes first c.go_ahead.new.run c.turn.new.run ahead turned more in
+    record {
+      ran = next.ran;
+      turns = omega (arith, c.loop.invariant.turns, ahead_longer now c.go_ahead.new.run _ c.go_ahead.ensures, turned_longer g.D.Device.held g.D.Device.failed_writes c.go_ahead.new.run c.turn.new.run turned);
+      within = next.within;
+      budget = next.budget;
+      sent = next.sent;
+      devices = next.devices;
+      outputs = next.outputs;
+      none_fell = next.none_fell;
+    }

@@ -1,4 +1,4 @@
-use Rattle.std.proofs.Common.{◌≡◌, Some, map, length}
+use Rattle.std.proofs.Common.{◌≡◌, ◌≤◌, Some, map, length}
 use Rattle.guest_core.specs.Event.{run}
 use Rattle.emu_top.specs.Running.{KeepsSent}
 use Rattle.emu_top.specs.Sending.{NoneFell}
@@ -7,7 +7,8 @@ use Rattle.emu_top.proofs.solo.run_to_end.Given as goal
 abbrev pub invariant-loop : goal.invariant-loop
 invariant-loop g l = record {
   ran : run (Some l.initial.run.core) l.run.journal.events ≡ Some l.run.core;
-  count : length l.run.journal.events ≡ l.counter;
+  turns : l.counter ≤ length l.run.journal.events;
+  within : length l.run.journal.events ≤ l.initial.run.journal.budget;
   budget : l.run.journal.budget ≡ l.initial.run.journal.budget;
   sent : KeepsSent g.D.Device.held l.initial.run l.run;
   devices : length l.run.devices.items ≡ length l.initial.run.devices.items;

@@ -1,0 +1,14 @@
+use Rattle.std.proofs.Common.{◌≡◌, Some, replicate}
+use Rattle.guest_core.specs.declared.events.Event.TheVariants.{Step}
+use Rattle.guest_core.specs.Ahead.{IsReady}
+use Rattle.guest_core.specs.Event.{run}
+use Rattle.guest_core.specs.Machine.{first_thread}
+use Rattle.guest_core.specs.State.{machine}
+use Rattle.guest_core.proofs.state.State.run_on.Given as goal
+
+abbrev pub invariant-loop-made : goal.invariant-loop-made
+invariant-loop-made l = record {
+  ran : run (Some (machine l.initial.self)) (replicate l.made (Step first_thread)) ≡ Some (machine l.self);
+  ready : IsReady (machine l.self);
+  outputs : (machine l.self).shared.outputs ≡ (machine l.initial.self).shared.outputs;
+}
