@@ -1,1 +1,4 @@
 pub mod Faults
+pub mod BelowFacts
+pub mod PairFacts
+pub mod LoadFacts

@@ -1,11 +1,13 @@
 -- The checks of a file in the order in which they are made: what must hold, and the refusal where it does not.
 -- Source: System V ABI, ELF-64; RISC-V ELF psABI, "File Header" (machine 243, flags 0x6 for a float ABI and 0x8 for
--- RV64E). The bounds of addresses, and what is not read yet, are the project's own.
-use Rattle.std.specs.Prelude.{ℕ, ◌+◌, ◌*◌, ◌%◌, Bool, ◌||◌, ◌==◌, nat_eq, nat_le, nat_lt, if◌then◌else◌, bit_and, List, [], ◌∷◌, ◌++◌, length, Option, Some, None}
+-- RV64E). The bounds of addresses, and that no page is writable and executable, are the project's own.
+use Rattle.std.specs.Prelude.{ℕ, ◌+◌, ◌*◌, ◌%◌, Bool, not, ◌||◌, ◌==◌, nat_eq, nat_le, if◌then◌else◌, bit_and, List, [], ◌∷◌, ◌++◌, length, Option, Some, None}
 use Rattle.std.specs.List.{starts_with}
 use Rattle.elf_file.specs.declared.fault.ElfFault.{ElfFault}
-use Rattle.elf_file.specs.declared.fault.ElfFault.TheVariants.{Short, NotElf, NotRiscv, Kind, FloatAbi, Embedded, HeaderSize, NotYet, BadSegment, Entry}
-use Rattle.elf_file.specs.Fields.{e_type, e_machine, e_entry, e_phoff, e_flags, e_phentsize, e_phnum, p_type, p_flags, p_offset, p_vaddr, p_filesz, p_memsz}
+use Rattle.elf_file.specs.declared.fault.ElfFault.TheVariants.{Short, NotElf, NotRiscv, Kind, FloatAbi, Embedded, HeaderSize, Interpreter, BadSegment, WritableCode, Overlap, Entry}
+use Rattle.elf_file.specs.Fields.{e_type, e_machine, e_phoff, e_flags, e_phentsize, e_phnum, p_type}
+use Rattle.elf_file.specs.Below.{below, any_below}
+use Rattle.elf_file.specs.Headers.{is_loaded, is_placed, is_writable_code, overlap_at, runs_entry, entry}
 
 -- what must hold, and the refusal where it does not
 pub record Check : Type 0 where
@@ -31,34 +33,39 @@ header_checks file =
     ∷ check (bit_and (e_flags file) 0x8 == 0) Embedded
     ∷ []
 
--- the table of program headers: the size of each, and that they lie in the file. Then: one, in a file of type 2
+-- the file holds its program headers, if it has any
+unfoldable pub has_table : List ℕ → Bool
+has_table file = e_phnum file == 0 || nat_le (e_phoff file + 56 * e_phnum file) (length file)
+
+-- the table of program headers: the size of each, and that they lie in the file
 unfoldable pub table_checks : List ℕ → List Check
 table_checks file =
-    check (e_phnum file == 0 || e_phentsize file == 56) (HeaderSize (e_phentsize file))
-    ∷ check (e_phnum file == 0 || nat_le (e_phoff file + 56 * e_phnum file) (length file)) Short
-    ∷ check (e_type file == 2) NotYet
-    ∷ check (e_phnum file == 1) NotYet
+    check (e_phnum file == 0 || e_phentsize file == 56) (HeaderSize (e_phentsize file)) ∷ check (has_table file) Short ∷ []
+
+-- a program header: it names no interpreter, and where it is loaded it is well placed and makes no page both writable
+-- and executable
+unfoldable pub segment_checks : List ℕ → ℕ → List Check
+segment_checks file i =
+    check (not (p_type file i == 3)) Interpreter
+    ∷ check (not (is_loaded file i) || is_placed file i) (BadSegment i)
+    ∷ check (not (is_loaded file i) || not (is_writable_code file i)) (WritableCode i)
     ∷ []
 
--- the segment: it is loaded, readable and executable and not writable, its bytes lie in the file, and its range lies
--- within the addresses of programs
-unfoldable pub segment_checks : List ℕ → List Check
-segment_checks file =
-    check (p_type file == 1) NotYet
-    ∷ check (bit_and (p_flags file) 7 == 5) NotYet
-    ∷ check (nat_le (p_filesz file) (p_memsz file)) (BadSegment 0)
-    ∷ check (nat_le (p_offset file + p_filesz file) (length file)) (BadSegment 0)
-    ∷ check (nat_le 0x1000 (p_vaddr file)) (BadSegment 0)
-    ∷ check (nat_le (p_vaddr file + p_memsz file) 0x3F00000000) (BadSegment 0)
-    ∷ []
+-- a segment j and an earlier one i: they share no byte
+unfoldable pub pair_checks : List ℕ → ℕ → ℕ → List Check
+pair_checks file j i = check (not (overlap_at file i j)) (Overlap i j) ∷ []
 
--- the entry: it is even, and within the segment
+-- a segment and the earlier ones
+unfoldable pub overlap_checks : List ℕ → ℕ → List Check
+overlap_checks file j = below (pair_checks file j) j
+
+-- the first instruction: its address is even, and in a segment that can be executed
 unfoldable pub entry_checks : List ℕ → List Check
 entry_checks file =
-    check (e_entry file % 2 == 0) Entry
-    ∷ check (nat_le (p_vaddr file) (e_entry file)) Entry
-    ∷ check (nat_lt (e_entry file) (p_vaddr file + p_memsz file)) Entry
-    ∷ []
+    check (entry file % 2 == 0) Entry ∷ check (any_below (runs_entry file) (e_phnum file)) Entry ∷ []
 
 abbrev pub checks : List ℕ → List Check
-checks file = header_checks file ++ (table_checks file ++ (segment_checks file ++ entry_checks file))
+checks file =
+    header_checks file
+    ++ (table_checks file
+    ++ (below (segment_checks file) (e_phnum file) ++ (below (overlap_checks file) (e_phnum file) ++ entry_checks file)))

@@ -1,11 +1,11 @@
--- The fields of an ELF-64 file. A number is little-endian, and a byte past the file's end reads 0.
+-- The fields of an ELF-64 file. A number is little-endian; a field that passes the file's end reads 0.
 -- Source: System V ABI, ELF-64 object file format, "ELF header" and "Program header".
-use Rattle.std.specs.Prelude.{ℕ, ◌+◌, List, drop}
-use Rattle.byteorder.specs.Endian.{little_number}
+use Rattle.std.specs.Prelude.{ℕ, ◌+◌, ◌*◌, List, unwrap_or}
+use Rattle.le_fields.specs.Fields.{field_at}
 
 -- the number of n bytes at an offset
-abbrev pub field : ℕ → ℕ → List ℕ → ℕ
-field n at file = little_number n (drop at file)
+unfoldable pub field : ℕ → ℕ → List ℕ → ℕ
+field n at file = unwrap_or (field_at n at file) 0
 
 -- ---- the file's header
 
@@ -30,22 +30,25 @@ e_phentsize file = field 2 54 file
 abbrev pub e_phnum : List ℕ → ℕ
 e_phnum file = field 2 56 file
 
--- ---- the first program header
+-- ---- the program header of an index
 
-abbrev pub p_type : List ℕ → ℕ
-p_type file = field 4 (e_phoff file) file
+abbrev pub header_place : List ℕ → ℕ → ℕ
+header_place file i = e_phoff file + 56 * i
 
-abbrev pub p_flags : List ℕ → ℕ
-p_flags file = field 4 (e_phoff file + 4) file
+abbrev pub p_type : List ℕ → ℕ → ℕ
+p_type file i = field 4 (header_place file i) file
 
-abbrev pub p_offset : List ℕ → ℕ
-p_offset file = field 8 (e_phoff file + 8) file
+abbrev pub p_flags : List ℕ → ℕ → ℕ
+p_flags file i = field 4 (header_place file i + 4) file
 
-abbrev pub p_vaddr : List ℕ → ℕ
-p_vaddr file = field 8 (e_phoff file + 16) file
+abbrev pub p_offset : List ℕ → ℕ → ℕ
+p_offset file i = field 8 (header_place file i + 8) file
 
-abbrev pub p_filesz : List ℕ → ℕ
-p_filesz file = field 8 (e_phoff file + 32) file
+abbrev pub p_vaddr : List ℕ → ℕ → ℕ
+p_vaddr file i = field 8 (header_place file i + 16) file
 
-abbrev pub p_memsz : List ℕ → ℕ
-p_memsz file = field 8 (e_phoff file + 40) file
+abbrev pub p_filesz : List ℕ → ℕ → ℕ
+p_filesz file i = field 8 (header_place file i + 32) file
+
+abbrev pub p_memsz : List ℕ → ℕ → ℕ
+p_memsz file i = field 8 (header_place file i + 40) file

@@ -1,32 +1,32 @@
--- What a file stands for: where it begins and its segment, or why it is refused.
+-- What a file stands for: where it begins and its segments, or why it is refused.
 -- Source: System V ABI, ELF-64, "Program header".
-use Rattle.std.specs.Prelude.{ℕ, ◌≡◌, List, take, drop, Option, Some, None, Result, Ok, Err}
+use Rattle.std.specs.Prelude.{ℕ, ◌≡◌, List, map, Option, Some, None, Result, Ok, Err}
 use Rattle.elf_file.specs.declared.fault.ElfFault.{ElfFault}
 use Rattle.elf_file.specs.declared.fault.ElfFault.TheVariants.{Memory}
 use Rattle.elf_file.specs.declared.image.Elf.{Elf}
-use Rattle.elf_file.specs.declared.image.Segment.{Segment}
-use Rattle.elf_file.specs.Fields.{e_entry, p_offset, p_vaddr, p_filesz, p_memsz}
+use Rattle.elf_file.specs.Fields.{e_phnum}
+use Rattle.elf_file.specs.Segments as segments
+use Rattle.elf_file.specs.Headers as headers
 use Rattle.elf_file.specs.Checks.{first_fault, checks}
+pub use Rattle.elf_file.specs.Segments.{SegmentImage}
+pub use Rattle.elf_file.specs.Views.{segment_image}
 
--- a segment: its address, the bytes from the file, and how many it has in memory
-pub record SegmentImage : Type 0 where
-  pub at : ℕ
-  pub file_bytes : List ℕ
-  pub size : ℕ
-
--- a file: where it begins, and its segment
+-- a file: where it begins, where its program headers stand in memory and how many they are, its segments, and the
+-- address behind their bytes
 pub record Image : Type 0 where
   pub entry : ℕ
-  pub segment : SegmentImage
+  pub header_at : ℕ
+  pub header_count : ℕ
+  pub segments : List SegmentImage
+  pub top : ℕ
 
 abbrev pub image_of : List ℕ → Image
 image_of file = record {
-  entry = e_entry file;
-  segment = record {
-    at = p_vaddr file;
-    file_bytes = take (p_filesz file) (drop (p_offset file) file);
-    size = p_memsz file;
-  };
+  entry = headers.entry file;
+  header_at = headers.header_at file;
+  header_count = e_phnum file;
+  segments = headers.segments_below file (e_phnum file);
+  top = segments.top_of (headers.segments_below file (e_phnum file));
 }
 
 abbrev pub image_unless : Option ElfFault → Image → Result Image ElfFault
@@ -38,11 +38,14 @@ unfoldable pub reading : List ℕ → Result Image ElfFault
 reading file = image_unless (first_fault (checks file)) (image_of file)
 
 -- what the code made, as an image
-abbrev pub segment_image : Segment → SegmentImage
-segment_image segment = record { at = segment.at; file_bytes = segment.file_bytes; size = segment.size }
-
 abbrev pub image : Elf → Image
-image elf = record { entry = elf.entry; segment = segment_image elf.segment }
+image elf = record {
+  entry = elf.entry;
+  header_at = elf.header_at;
+  header_count = elf.header_count;
+  segments = map segment_image elf.segments.items;
+  top = elf.top;
+}
 
 -- The code gives what reading gives, unless memory runs out.
 abbrev pub Gives : Result Elf ElfFault → Result Image ElfFault → Type 0

@@ -15,11 +15,15 @@ pub enum ElfFault {
     Embedded,
     /// Its program headers have this size, and not 56 bytes.
     HeaderSize(u16),
-    /// It is of a form that is not read yet.
-    NotYet,
+    /// It asks for an interpreter.
+    Interpreter,
     /// The segment of this program header has more bytes in the file than in memory, or bytes past the file's end, or
     /// is not within the addresses of programs.
     BadSegment(u16),
+    /// The segment of this program header makes a page that is writable and executable, alone or with an earlier one.
+    WritableCode(u16),
+    /// The segments of these two program headers share a byte. The first index is less than the second.
+    Overlap(u16, u16),
     /// The entry is odd, or outside the bytes that can be executed.
     Entry,
     /// Want of memory.

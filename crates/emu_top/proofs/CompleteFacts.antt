@@ -1,74 +1,74 @@
 -- Where the words name a file that starts and no count rose, only want of memory is left.
-use Rattle.std.proofs.Common.{◌≡◌, ◌⊎◌, ℕ, ◌+◌, ◌≤◌, ◌<◌, List, map, length, drop, Option, Some, None, Ok, Err, inl, inr, refl, sym, subst, arith}
-use Rattle.std.proofs.Math.Nat.{eq-or-lt_of_le}
-use Rattle.std.proofs.lemmas.List.{take-append-drop}
+use Rattle.std.proofs.Common.{◌≡◌, ℕ, ◌≤◌, ◌<◌, List, map, Option, Some, None, Ok, Err, refl, ap, sym, subst, ◌∙◌, arith}
 use Rattle.elf_file.specs.declared.fault.ElfFault.{ElfFault}
 use Rattle.elf_file.specs.Reading.{Image, reading}
-use Rattle.guest_core.specs.Start.{wanted_pages, most_pages}
+use Rattle.cli_words.specs.Command.{Asked, IsAsked, asked_by}
+use Rattle.cli_words.specs.FirstWrong.{IsAccepted}
+use Rattle.cli_words.proofs.FrontFacts.{same_command}
+use Rattle.cli_words.proofs.WrongFacts.{not_accepted}
+use Rattle.guest_core.specs.Start.{wanted_pages, most_pages, FitsIn}
+use Rattle.start_stack.specs.Placing.{stack_size, most_bytes}
 use Rattle.emu_top.specs.declared.cause.Cause.{Cause}
 use Rattle.emu_top.specs.declared.cause.Cause.TheVariants as causes
 use Rattle.emu_top.specs.declared.cause.Part.TheVariants as parts
 use Rattle.emu_top.specs.declared.folder.Entry.{Entry}
 use Rattle.emu_top.specs.declared.folder.Listed.{Listed}
 use Rattle.emu_top.specs.Files.{listed, IsFileOf}
-use Rattle.emu_top.specs.Words.{IsSolo, IsAccepted, IsFirstWrong}
 use Rattle.emu_top.specs.Journal.{History}
 use Rattle.emu_top.specs.Notes.{TellsFault}
-use Rattle.emu_top.specs.Solo.{HasProgram, IsCaused, Faults}
+use Rattle.emu_top.specs.Solo.{HasProgram, IsCaused, Faults, args_of, launched}
 use Rattle.emu_top.proofs.TopFacts.{faults}
 use Rattle.emu_top.specs.Complete.{Starts, Names, IsRunnable, NoneRose}
 
--- accepted words have no wrong one
-not_wrong_at : (words : List (List ℕ)) (index : ℕ) → IsAccepted words → IsFirstWrong words index → (index ≡ length words) ⊎ (index < length words) → ⊥
-not_wrong_at words index accepted wrong (inl same) = wrong.missing same accepted
-not_wrong_at words index accepted wrong (inr less) =
-    wrong.wrong less (drop (index + 1) words) (subst IsAccepted (sym (take-append-drop (index + 1) words)) accepted)
-
-not_wrong : (words : List (List ℕ)) (index : ℕ) → IsAccepted words → IsFirstWrong words index → ⊥
-not_wrong words index accepted wrong = not_wrong_at words index accepted wrong (eq-or-lt_of_le wrong.within)
-
--- the words name one program
-same_program : (words : List (List ℕ)) (folder program other_folder other : List ℕ) → IsSolo words folder program → IsSolo words other_folder other → program ≡ other
-same_program words folder program other_folder other one two =
-    let first = one.form in
-    let second = two.form in
-    cc
+-- the words ask for one thing
+same_asked : (words : List (List ℕ)) (one other : Asked) → IsAsked words one → IsAsked words other → one ≡ other
+same_asked words one other first second =
+    first.2 ∙ ap asked_by (same_command words first.0 second.0 first.1 second.1) ∙ sym second.2
 
 -- each file that the words name starts
-starts : (entries : List Entry) (words : List (List ℕ)) (folder program bytes : List ℕ) → Names entries words → IsSolo words folder program → IsFileOf entries program bytes → Starts bytes
-starts entries words folder program bytes names is_solo is_file =
-    names.starts bytes (subst (λ path. IsFileOf entries path bytes) (same_program words folder program names.folder names.program is_solo names.solo) is_file)
+starts : (entries : List Entry) (words : List (List ℕ)) (asked : Asked) (bytes : List ℕ) → Names entries words → IsAsked words asked → IsFileOf entries asked.program bytes → Starts asked bytes
+starts entries words asked bytes names asks is_file =
+    let same = same_asked words asked names.asked asks names.asks in
+    subst (λ (a : Asked). Starts a bytes) (sym same) (names.starts bytes (subst (λ (a : Asked). IsFileOf entries a.program bytes) same is_file))
 
-pages_fit : (bytes : List ℕ) (elf : Image) → Starts bytes → reading bytes ≡ Ok elf → wanted_pages elf ≤ most_pages
-pages_fit bytes elf started is =
+fits : (asked : Asked) (bytes : List ℕ) (elf : Image) → Starts asked bytes → reading bytes ≡ Ok elf → FitsIn (launched asked elf)
+fits asked bytes elf started is =
     let other = started.1 in
     let same : started.0 ≡ elf = cc in
-    subst (λ e. wanted_pages e ≤ most_pages) same started.2
+    subst (λ (e : Image). FitsIn (launched asked e)) same started.2
 
-is_read : (bytes : List ℕ) → Starts bytes → (fault : ElfFault) → reading bytes ≡ Err fault → ⊥
-is_read bytes started fault is =
+is_read : (asked : Asked) (bytes : List ℕ) → Starts asked bytes → (fault : ElfFault) → reading bytes ≡ Err fault → ⊥
+is_read asked bytes started fault is =
     let other = started.1 in
     cc
 
-has : (entries : List Entry) (words : List (List ℕ)) (folder program : List ℕ) (listing : List Listed) → Names entries words → IsSolo words folder program → listing ≡ map listed entries → HasProgram listing program
-has entries words folder program listing names is_solo is =
-    let same : program ≡ names.program = same_program words folder program names.folder names.program is_solo names.solo in
+has : (entries : List Entry) (words : List (List ℕ)) (asked : Asked) (listing : List Listed) → Names entries words → IsAsked words asked → listing ≡ map listed entries → HasProgram listing asked.program
+has entries words asked listing names asks is =
+    let same = same_asked words asked names.asked asks names.asks in
     rw (is, same) names.has
 
 only_memory : {D K : Type 0} (held : D → Option (List ℕ)) (writes : D → ℕ) (told : K → Option (List ℕ)) (note_writes : K → ℕ) (entries : List Entry) (reads_before reads_after : ℕ) (words : List (List ℕ)) (before : List D) (notes_before notes_after : K) (cause : Cause) (journal : History) (after : List D) → Names entries words → NoneRose writes note_writes reads_before reads_after before after notes_before notes_after → Faults held writes told note_writes (Some entries) reads_before reads_after words before notes_before notes_after cause journal after → cause ≡ causes.Memory
 only_memory held writes told note_writes entries reads_before reads_after words before notes_before notes_after (causes.Usage word) journal after names none faults =
-    absurd (not_wrong words word (names.folder, names.program, names.solo) faults.0.0)
+    absurd (not_accepted IsAccepted words word faults.0.0 (names.asks.0, names.asks.1))
 only_memory held writes told note_writes entries reads_before reads_after words before notes_before notes_after (causes.NoProgram program) journal after names none faults =
     let why = faults.0.0 in
-    absurd (why.2.2 (has entries words why.0 program why.2.0 names why.1 why.2.1))
+    absurd (why.3.2 (subst (HasProgram why.3.0) why.2 (has entries words why.0 why.3.0 names why.1 why.3.1)))
 only_memory held writes told note_writes entries reads_before reads_after words before notes_before notes_after (causes.Elf fault) journal after names none faults =
     let why = faults.0.0 in
-    absurd (is_read why.2 (starts entries words why.0 why.1 why.2 names why.3 why.4.reads) fault why.5)
+    absurd (is_read why.0 why.1 (starts entries words why.0 why.1 names why.2 why.3.reads) fault why.4)
+only_memory held writes told note_writes entries reads_before reads_after words before notes_before notes_after (causes.StackTooLong size) journal after names none faults =
+    let why = faults.0.0 in
+    let prepared = why.2 in
+    let fit = fits why.0 prepared.bytes why.1 (starts entries words why.0 prepared.bytes names prepared.asks prepared.found.reads) prepared.elf_is in
+    let few : stack_size (args_of why.0) why.0.env ≤ most_bytes = fit.stack in
+    let more : most_bytes < stack_size (args_of why.0) why.0.env = why.4 in
+    absurd (omega arith)
 only_memory held writes told note_writes entries reads_before reads_after words before notes_before notes_after (causes.PagesFull wanted) journal after names none faults =
     let why = faults.0.0 in
-    let prepared = why.1 in
-    let fit : wanted_pages why.0 ≤ most_pages = pages_fit prepared.bytes why.0 (starts entries words prepared.folder prepared.program prepared.bytes names prepared.solo prepared.found.reads) prepared.elf_is in
-    let more : most_pages < wanted_pages why.0 = subst (λ (n : ℕ). most_pages < n) why.2 why.3 in
+    let prepared = why.2 in
+    let fit = fits why.0 prepared.bytes why.1 (starts entries words why.0 prepared.bytes names prepared.asks prepared.found.reads) prepared.elf_is in
+    let few : wanted_pages why.1 ≤ most_pages = fit.pages in
+    let more : most_pages < wanted_pages why.1 = why.4 in
     absurd (omega arith)
 only_memory held writes told note_writes entries reads_before reads_after words before notes_before notes_after (causes.ReadFault parts.Folder) journal after names none faults =
     absurd (none.reads faults.0.0.1)

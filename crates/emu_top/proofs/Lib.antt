@@ -1,6 +1,4 @@
 pub mod FileFacts
-pub mod PartFacts
-pub mod WordFacts
 pub mod JournalFacts
 pub mod SendFacts
 pub mod TurnFacts
@@ -8,3 +6,4 @@ pub mod RunFacts
 pub mod TopFacts
 pub mod RowsSimulate
 pub mod CompleteFacts
+pub mod LaunchFacts

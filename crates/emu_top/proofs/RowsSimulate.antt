@@ -2,7 +2,6 @@
 use Rattle.std.proofs.Common.{◌≡◌, ℕ, ◌==◌, ◌&&◌, Bool, true, false, cond, is_none, ℤ, List, [], ◌∷◌, ◌++◌, Option, Some, None, refl, ap, sym, ◌∙◌, subst, arith}
 use Rattle.std.proofs.lemmas.Bool.Decides.{nat_tests}
 use Rattle.std.proofs.lemmas.Grind.{common_steps}
-use Rattle.elf_file.specs.Reading.{Image}
 use Rattle.guest_core.specs.declared.ends.End.{End}
 use Rattle.guest_core.specs.declared.events.Event.{Event}
 use Rattle.guest_core.specs.declared.events.Event.TheVariants.{Step}
@@ -17,7 +16,7 @@ use Rattle.guest_core.specs.Kept.{Keeps}
 use Rattle.guest_core.specs.Machine.{Shared, Machine, due, first_thread}
 use Rattle.guest_core.specs.Pending.{first_of, is_empty}
 use Rattle.guest_core.specs.Rows.{Row, Note, Take, ClearFlag, Execute, Check, Enter, Return, row_of, done, noted_at, noted, taken, flag_cleared, after, executed, checked, after_call, entered, returned, stepped, ticked}
-use Rattle.guest_core.specs.Start.{started}
+use Rattle.guest_core.specs.Start.{Program, started}
 use Rattle.guest_core.proofs.KeptFacts.{Fits, row_fits, tick_keeps, step_keeps}
 use Rattle.guest_core.proofs.StartFacts.{start_keeps}
 use Rattle.linux_model.specs.declared.labels.Label.{Label}
@@ -183,12 +182,12 @@ pub run_simulates : (events : List Event) (first last : Machine) → Keeps first
 run_simulates [] first last keeps ran = ap (λ (m : Machine). Some (view m)) (let same : first ≡ last = cc in same)
 run_simulates (event ∷ events) first last keeps ran = run_by (event_after first event) event events first last refl keeps (λ middle kept on. run_simulates events middle last kept on) ran
 
-start_shows : (image : Image) (devices : ℕ) → view (started image devices) ≡ begun image devices
+start_shows : (program : Program) (devices : ℕ) → view (started program devices) ≡ begun program devices
 unfolding started begun
-start_shows image devices = refl
+start_shows program devices = refl
 
 -- the same from the start of a file
-pub start_simulates : (image : Image) (devices : ℕ) (events : List Event) (last : Machine) → run (Some (started image devices)) events ≡ Some last → process.follow (Some (begun image devices)) (run_labels (Some (started image devices)) events) ≡ Some (view last)
-start_simulates image devices events last ran =
-    ap (λ (p : ProcessState). process.follow (Some p) (run_labels (Some (started image devices)) events)) (sym (start_shows image devices))
-    ∙ run_simulates events (started image devices) last (start_keeps image devices) ran
+pub start_simulates : (program : Program) (devices : ℕ) (events : List Event) (last : Machine) → run (Some (started program devices)) events ≡ Some last → process.follow (Some (begun program devices)) (run_labels (Some (started program devices)) events) ≡ Some (view last)
+start_simulates program devices events last ran =
+    ap (λ (p : ProcessState). process.follow (Some p) (run_labels (Some (started program devices)) events)) (sym (start_shows program devices))
+    ∙ run_simulates events (started program devices) last (start_keeps program devices) ran

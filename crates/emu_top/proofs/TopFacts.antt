@@ -1,23 +1,24 @@
 -- From a run of the core to what the top call answers.
-use Rattle.std.proofs.Common.{◌≡◌, ℕ, ◌<◌, ◌≤◌, List, [], ◌∷◌, ◌++◌, append-nil, replicate, Some, None, Option, Result, Ok, Err, IfOk, IfErr, map, length, ◌⊎◌, inl, inr, refl, ap, sym, ◌∙◌, subst}
+use Rattle.std.proofs.Common.{◌≡◌, ℕ, ◌<◌, List, [], ◌∷◌, ◌++◌, append-nil, replicate, Some, None, Option, Result, Ok, Err, IfOk, IfErr, map, length, ◌⊎◌, inl, inr, refl, ap, sym, ◌∙◌, subst}
 use Rattle.std.proofs.lemmas.List.{length-map, length-replicate}
 use Rattle.elf_file.specs.declared.fault.ElfFault.{ElfFault}
 use Rattle.elf_file.specs.declared.fault.ElfFault.TheVariants as elf_faults
 use Rattle.elf_file.specs.Reading.{Image, Gives}
 use Rattle.guest_core.specs.Machine.{Machine}
-use Rattle.guest_core.specs.Start.{started, wanted_pages, most_pages}
+use Rattle.guest_core.specs.Start.{Program, started, FitsIn}
 use Rattle.guest_core.specs.declared.ends.End.{End}
 use Rattle.emu_top.specs.declared.solo.Halt.{Halt}
 use Rattle.emu_top.specs.declared.solo.Halt.TheVariants as halts
 use Rattle.emu_top.specs.declared.solo.Run.{Run}
 use Rattle.emu_top.specs.declared.top.Finished.{Finished}
 use Rattle.emu_top.specs.declared.top.Stopped as top
-use Rattle.emu_top.specs.Running.{Ran, Ended, Stopped, IsEnd}
+use Rattle.emu_top.specs.Running.{Ran, Ended, Stopped}
 use Rattle.emu_top.specs.Sending.{sent}
 use Rattle.guest_core.specs.Event.{run}
 use Rattle.emu_top.specs.declared.folder.Entry.{Entry}
+use Rattle.cli_words.specs.Command.{Asked}
 use Rattle.emu_top.specs.Journal.{History}
-use Rattle.emu_top.specs.Solo.{budget, status_of, RunsFrom, CoreFinishes, CoreStops, Prepared, Journeys, Finishes, Untouched, StoppedBy, Wants, IsCaused, Faults, halt_cause}
+use Rattle.emu_top.specs.Solo.{status_of, launched, RunsFrom, CoreFinishes, CoreStops, Prepared, Journeys, Finishes, Untouched, StoppedBy, Wants, IsCaused, Faults, halt_cause}
 use Rattle.emu_top.specs.Notes.{cause_line, Tries, TellsFault}
 use Rattle.emu_top.specs.declared.cause.Cause.{Cause}
 use Rattle.emu_top.specs.declared.cause.Cause.TheVariants as causes
@@ -25,46 +26,46 @@ use Rattle.emu_top.specs.declared.cause.Part.TheVariants as parts
 use Rattle.emu_top.specs.View.{view}
 use Rattle.emu_top.proofs.RowsSimulate.{start_simulates}
 
-runs_from : {D : Type 0} (first last : Run D) → first.journal.budget ≡ budget → Ran first last → RunsFrom first.core last.journal last.core
-runs_from first last is ran = record { enabled = ran.events; within = ran.within; budget_is = ran.budget ∙ is }
+runs_from : {D : Type 0} (budget : ℕ) (first last : Run D) → first.journal.budget ≡ budget → Ran first last → RunsFrom first.core budget last.journal last.core
+runs_from budget first last is ran = record { enabled = ran.events; within = ran.within; budget_is = ran.budget ∙ is }
 
-core_stops : {D : Type 0} (held : D → Option (List ℕ)) (writes : D → ℕ) (halt : Halt) (first last : Run D) → first.journal.budget ≡ budget → length (map held first.devices.items) ≡ length first.core.shared.outputs → map held first.devices.items ≡ sent (map held first.devices.items) first.core.shared.outputs → length last.devices.items ≡ length first.devices.items → Stopped held writes halt first last → CoreStops held writes first.core first.devices.items halt last.journal last.devices.items
-core_stops held writes (halts.Device device) first last is size quiet same stopped = (
+core_stops : {D : Type 0} (held : D → Option (List ℕ)) (writes : D → ℕ) (halt : Halt) (budget : ℕ) (first last : Run D) → first.journal.budget ≡ budget → length (map held first.devices.items) ≡ length first.core.shared.outputs → map held first.devices.items ≡ sent (map held first.devices.items) first.core.shared.outputs → length last.devices.items ≡ length first.devices.items → Stopped held writes halt first last → CoreStops held writes first.core budget first.devices.items halt last.journal last.devices.items
+core_stops held writes (halts.Device device) budget first last is size quiet same stopped = (
   last.core,
-  runs_from first last is stopped.0,
+  runs_from budget first last is stopped.0,
   stopped.1 (map held first.devices.items) size quiet,
   subst (λ (n : ℕ). device < n) same stopped.2.within,
   stopped.2.rose,
 )
-core_stops held writes halts.Memory first last is size quiet same stopped =
-    (last.core, runs_from first last is stopped.0, stopped.1 (map held first.devices.items) size quiet)
+core_stops held writes halts.Memory budget first last is size quiet same stopped =
+    (last.core, runs_from budget first last is stopped.0, stopped.1 (map held first.devices.items) size quiet)
 
-pub answer_stops : {D : Type 0} (held : D → Option (List ℕ)) (writes : D → ℕ) (ended : Result End Halt) (first last : Run D) (answer : Result (Finished D) (top.Stopped D)) → first.journal.budget ≡ budget → length (map held first.devices.items) ≡ length first.core.shared.outputs → map held first.devices.items ≡ sent (map held first.devices.items) first.core.shared.outputs → length last.devices.items ≡ length first.devices.items → IfErr ended (λ halt. Stopped held writes halt first last) → IfErr answer (λ f. (ended ≡ Err f.halt) × (f.journal ≡ last.journal) × (f.devices ≡ last.devices)) → IfErr answer (λ f. CoreStops held writes first.core first.devices.items f.halt f.journal f.devices.items)
-answer_stops held writes ended first last (Ok f) is size quiet same stopped tells = tells
-answer_stops held writes ended first last (Err f) is size quiet same stopped tells =
+pub answer_stops : {D : Type 0} (held : D → Option (List ℕ)) (writes : D → ℕ) (ended : Result End Halt) (budget : ℕ) (first last : Run D) (answer : Result (Finished D) (top.Stopped D)) → first.journal.budget ≡ budget → length (map held first.devices.items) ≡ length first.core.shared.outputs → map held first.devices.items ≡ sent (map held first.devices.items) first.core.shared.outputs → length last.devices.items ≡ length first.devices.items → IfErr ended (λ halt. Stopped held writes halt first last) → IfErr answer (λ f. (ended ≡ Err f.halt) × (f.journal ≡ last.journal) × (f.devices ≡ last.devices)) → IfErr answer (λ f. CoreStops held writes first.core budget first.devices.items f.halt f.journal f.devices.items)
+answer_stops held writes ended budget first last (Ok f) is size quiet same stopped tells = tells
+answer_stops held writes ended budget first last (Err f) is size quiet same stopped tells =
     let halted : Stopped held writes f.halt first last = subst (λ (r : Result End Halt). IfErr r (λ halt. Stopped held writes halt first last)) tells.0 stopped in
-    rw (tells.1, tells.2) (core_stops held writes f.halt first last is size quiet same halted)
+    rw (tells.1, tells.2) (core_stops held writes f.halt budget first last is size quiet same halted)
 
-core_finishes : {D : Type 0} (held : D → Option (List ℕ)) (end : End) (status : ℕ) (first last : Run D) → first.journal.budget ≡ budget → length (map held first.devices.items) ≡ length first.core.shared.outputs → map held first.devices.items ≡ sent (map held first.devices.items) first.core.shared.outputs → Ended held end first last → status ≡ status_of end → CoreFinishes held first.core first.devices.items end status last.journal last.devices.items
-core_finishes held end status first last is size quiet ended status_is = record {
+core_finishes : {D : Type 0} (held : D → Option (List ℕ)) (end : End) (status budget : ℕ) (first last : Run D) → first.journal.budget ≡ budget → length (map held first.devices.items) ≡ length first.core.shared.outputs → map held first.devices.items ≡ sent (map held first.devices.items) first.core.shared.outputs → Ended held end first last → status ≡ status_of end → CoreFinishes held first.core budget first.devices.items end status last.journal last.devices.items
+core_finishes held end status budget first last is size quiet ended status_is = record {
   last = last.core;
-  runs = runs_from first last is ended.ran;
-  end_is = subst (λ (n : ℕ). IsEnd last.core.end (length last.journal.events) n end) (ended.ran.budget ∙ is) ended.end_is;
+  runs = runs_from budget first last is ended.ran;
+  end_is = ended.end_is;
   status_is = status_is;
   all_sent = ended.sent (map held first.devices.items) size quiet;
 }
 
-pub answer_finishes : {D : Type 0} (held : D → Option (List ℕ)) (ended : Result End Halt) (first last : Run D) (answer : Result (Finished D) (top.Stopped D)) → first.journal.budget ≡ budget → length (map held first.devices.items) ≡ length first.core.shared.outputs → map held first.devices.items ≡ sent (map held first.devices.items) first.core.shared.outputs → IfOk ended (λ end. Ended held end first last) → IfOk answer (λ f. (ended ≡ Ok f.end) × (f.status ≡ status_of f.end) × (f.journal ≡ last.journal) × (f.devices ≡ last.devices)) → IfOk answer (λ f. CoreFinishes held first.core first.devices.items f.end f.status f.journal f.devices.items)
-answer_finishes held ended first last (Err f) is size quiet done tells = tells
-answer_finishes held ended first last (Ok f) is size quiet done tells =
+pub answer_finishes : {D : Type 0} (held : D → Option (List ℕ)) (ended : Result End Halt) (budget : ℕ) (first last : Run D) (answer : Result (Finished D) (top.Stopped D)) → first.journal.budget ≡ budget → length (map held first.devices.items) ≡ length first.core.shared.outputs → map held first.devices.items ≡ sent (map held first.devices.items) first.core.shared.outputs → IfOk ended (λ end. Ended held end first last) → IfOk answer (λ f. (ended ≡ Ok f.end) × (f.status ≡ status_of f.end) × (f.journal ≡ last.journal) × (f.devices ≡ last.devices)) → IfOk answer (λ f. CoreFinishes held first.core budget first.devices.items f.end f.status f.journal f.devices.items)
+answer_finishes held ended budget first last (Err f) is size quiet done tells = tells
+answer_finishes held ended budget first last (Ok f) is size quiet done tells =
     let whole : Ended held f.end first last = subst (λ (r : Result End Halt). IfOk r (λ end. Ended held end first last)) tells.0 done in
-    rw (tells.2, tells.3) (core_finishes held f.end f.status first last is size quiet whole tells.1)
+    rw (tells.2, tells.3) (core_finishes held f.end f.status budget first last is size quiet whole tells.1)
 
 -- ---- the start
 
-outputs_at_start : (elf : Image) (devices : ℕ) → (started elf devices).shared.outputs ≡ replicate devices []
+outputs_at_start : (program : Program) (devices : ℕ) → (started program devices).shared.outputs ≡ replicate devices []
 unfolding started
-outputs_at_start elf devices = refl
+outputs_at_start program devices = refl
 
 nothing_sent : (helds : List (Option (List ℕ))) → sent helds (replicate (length helds) []) ≡ helds
 nothing_sent [] = refl
@@ -73,59 +74,60 @@ nothing_sent (Some held ∷ helds) =
     ap (λ rest. Some (held ++ []) ∷ rest) (nothing_sent helds) ∙ ap (λ bytes. Some bytes ∷ helds) (append-nil held)
 
 -- there is an output for each device
-pub start_size : {D : Type 0} (devices : List D) (elf : Image) (count : ℕ) (core : Machine) → core ≡ started elf count → count ≡ length devices → length devices ≡ length core.shared.outputs
-start_size devices elf count core is same =
-    sym same ∙ sym (length-replicate count []) ∙ ap (λ (outputs : List (List ℕ)). length outputs) (sym (outputs_at_start elf count)) ∙ ap (λ (m : Machine). length m.shared.outputs) (sym is)
+pub start_size : {D : Type 0} (devices : List D) (program : Program) (count : ℕ) (core : Machine) → core ≡ started program count → count ≡ length devices → length devices ≡ length core.shared.outputs
+start_size devices program count core is same =
+    sym same ∙ sym (length-replicate count []) ∙ ap (λ (outputs : List (List ℕ)). length outputs) (sym (outputs_at_start program count)) ∙ ap (λ (m : Machine). length m.shared.outputs) (sym is)
 
 -- and nothing was written
-pub start_quiet : {D : Type 0} (held : D → Option (List ℕ)) (devices : List D) (elf : Image) (count : ℕ) (core : Machine) → core ≡ started elf count → count ≡ length devices → map held devices ≡ sent (map held devices) core.shared.outputs
-start_quiet held devices elf count core is same =
+pub start_quiet : {D : Type 0} (held : D → Option (List ℕ)) (devices : List D) (program : Program) (count : ℕ) (core : Machine) → core ≡ started program count → count ≡ length devices → map held devices ≡ sent (map held devices) core.shared.outputs
+start_quiet held devices program count core is same =
     let size : count ≡ length (map held devices) = same ∙ simp length-map in
     let outputs : core.shared.outputs ≡ replicate (length (map held devices)) [] =
-    ap (λ (m : Machine). m.shared.outputs) is ∙ outputs_at_start elf count ∙ ap (λ (n : ℕ). replicate n []) size in
+    ap (λ (m : Machine). m.shared.outputs) is ∙ outputs_at_start program count ∙ ap (λ (n : ℕ). replicate n []) size in
     sym (nothing_sent (map held devices)) ∙ ap (sent (map held devices)) (sym outputs)
 
 -- ---- the answer
 
-journeys : (tree : Option (List Entry)) (words : List (List ℕ)) (elf : Image) (devices : ℕ) (core : Machine) (journal : History) (last : Machine) → Prepared tree words elf → wanted_pages elf ≤ most_pages → core ≡ started elf devices → RunsFrom core journal last → Journeys tree words devices journal last (view last)
-journeys tree words elf devices core journal last prepared fit is runs =
-    let enabled : run (Some (started elf devices)) journal.events ≡ Some last = ap (λ (m : Machine). run (Some m) journal.events) (sym is) ∙ runs.enabled in
+journeys : (tree : Option (List Entry)) (words : List (List ℕ)) (asked : Asked) (elf : Image) (devices : ℕ) (core : Machine) (journal : History) (last : Machine) → Prepared tree words asked elf → FitsIn (launched asked elf) → core ≡ started (launched asked elf) devices → RunsFrom core asked.budget journal last → Journeys tree words devices journal last (view last)
+journeys tree words asked elf devices core journal last prepared fit is runs =
+    let enabled : run (Some (started (launched asked elf) devices)) journal.events ≡ Some last = ap (λ (m : Machine). run (Some m) journal.events) (sym is) ∙ runs.enabled in
     record {
+      asked = asked;
       elf = elf;
       prepared = prepared;
-      pages_fit = fit;
+      fits = fit;
       enabled = enabled;
       within = runs.within;
       budget_is = runs.budget_is;
-      labels_are_a_run = start_simulates elf devices journal.events last enabled;
+      labels_are_a_run = start_simulates (launched asked elf) devices journal.events last enabled;
       viewed = refl;
     }
 
 -- a run of the core to its end is what the top call shows
-pub finishes : {D : Type 0} (held : D → Option (List ℕ)) (tree : Option (List Entry)) (words : List (List ℕ)) (elf : Image) (core : Machine) (before : List D) (end : End) (status : ℕ) (journal : History) (after : List D) → CoreFinishes held core before end status journal after → Prepared tree words elf → wanted_pages elf ≤ most_pages → core ≡ started elf (length before) → Finishes held tree words before end status journal after
-finishes held tree words elf core before end status journal after finished prepared fit is = record {
+pub finishes : {D : Type 0} (held : D → Option (List ℕ)) (tree : Option (List Entry)) (words : List (List ℕ)) (asked : Asked) (elf : Image) (core : Machine) (before : List D) (end : End) (status : ℕ) (journal : History) (after : List D) → CoreFinishes held core asked.budget before end status journal after → Prepared tree words asked elf → FitsIn (launched asked elf) → core ≡ started (launched asked elf) (length before) → Finishes held tree words before end status journal after
+finishes held tree words asked elf core before end status journal after finished prepared fit is = record {
   last = finished.last;
   process = view finished.last;
-  journeys = journeys tree words elf (length before) core journal finished.last prepared fit is finished.runs;
+  journeys = journeys tree words asked elf (length before) core journal finished.last prepared fit is finished.runs;
   end_is = finished.end_is;
   status_is = finished.status_is;
   all_sent = finished.all_sent;
 }
 
 -- and one that stopped is a cause
-pub is_caused : {D : Type 0} (held : D → Option (List ℕ)) (writes : D → ℕ) (tree : Option (List Entry)) (reads_before reads_after : ℕ) (words : List (List ℕ)) (elf : Image) (core : Machine) (before : List D) (halt : Halt) (journal : History) (after : List D) → CoreStops held writes core before halt journal after → Prepared tree words elf → wanted_pages elf ≤ most_pages → core ≡ started elf (length before) → IsCaused held writes tree reads_before reads_after words before (halt_cause halt) journal after
-is_caused held writes tree reads_before reads_after words elf core before (halts.Device device) journal after stopped prepared fit is = record {
+pub is_caused : {D : Type 0} (held : D → Option (List ℕ)) (writes : D → ℕ) (tree : Option (List Entry)) (reads_before reads_after : ℕ) (words : List (List ℕ)) (asked : Asked) (elf : Image) (core : Machine) (before : List D) (halt : Halt) (journal : History) (after : List D) → CoreStops held writes core asked.budget before halt journal after → Prepared tree words asked elf → FitsIn (launched asked elf) → core ≡ started (launched asked elf) (length before) → IsCaused held writes tree reads_before reads_after words before (halt_cause halt) journal after
+is_caused held writes tree reads_before reads_after words asked elf core before (halts.Device device) journal after stopped prepared fit is = record {
   last = stopped.0;
   process = view stopped.0;
-  journeys = journeys tree words elf (length before) core journal stopped.0 prepared fit is stopped.1;
+  journeys = journeys tree words asked elf (length before) core journal stopped.0 prepared fit is stopped.1;
   sent_up_to = stopped.2;
   is_device = stopped.3;
   rose = stopped.4;
 }
-is_caused held writes tree reads_before reads_after words elf core before halts.Memory journal after stopped prepared fit is = inr (record {
+is_caused held writes tree reads_before reads_after words asked elf core before halts.Memory journal after stopped prepared fit is = inr (record {
   last = stopped.0;
   process = view stopped.0;
-  journeys = journeys tree words elf (length before) core journal stopped.0 prepared fit is stopped.1;
+  journeys = journeys tree words asked elf (length before) core journal stopped.0 prepared fit is stopped.1;
   all_sent = stopped.2;
 })
 
@@ -139,7 +141,9 @@ gives_fault elf_faults.Kind read gives apart = gives
 gives_fault elf_faults.FloatAbi read gives apart = gives
 gives_fault elf_faults.Embedded read gives apart = gives
 gives_fault (elf_faults.HeaderSize size) read gives apart = gives
-gives_fault elf_faults.NotYet read gives apart = gives
+gives_fault elf_faults.Interpreter read gives apart = gives
+gives_fault (elf_faults.WritableCode index) read gives apart = gives
+gives_fault (elf_faults.Overlap first second) read gives apart = gives
 gives_fault (elf_faults.BadSegment index) read gives apart = gives
 gives_fault elf_faults.Entry read gives apart = gives
 gives_fault elf_faults.Memory read gives apart = absurd (apart refl)
@@ -153,6 +157,8 @@ forgets held writes tree reads_before reads_after words before (causes.Usage wor
 forgets held writes tree reads_before reads_after words before (causes.NoProgram program) journal after caused =
     inl (inl caused.1)
 forgets held writes tree reads_before reads_after words before (causes.Elf fault) journal after caused =
+    inl (inl caused.1)
+forgets held writes tree reads_before reads_after words before (causes.StackTooLong size) journal after caused =
     inl (inl caused.1)
 forgets held writes tree reads_before reads_after words before (causes.PagesFull wanted) journal after caused =
     inl (inl caused.1)
@@ -178,6 +184,8 @@ keeps held writes told note_writes tree reads_before reads_after words before no
 keeps held writes told note_writes tree reads_before reads_after words before notes_before notes_after (causes.NoProgram program) journal after caused apart tries =
     (caused, tries)
 keeps held writes told note_writes tree reads_before reads_after words before notes_before notes_after (causes.Elf fault) journal after caused apart tries =
+    (caused, tries)
+keeps held writes told note_writes tree reads_before reads_after words before notes_before notes_after (causes.StackTooLong size) journal after caused apart tries =
     (caused, tries)
 keeps held writes told note_writes tree reads_before reads_after words before notes_before notes_after (causes.PagesFull wanted) journal after caused apart tries =
     (caused, tries)
@@ -206,6 +214,8 @@ faults held writes told note_writes tree reads_before reads_after words before n
     told_or_forgotten held writes told note_writes tree reads_before reads_after words before notes_before notes_after (causes.NoProgram program) answered journal after caused tt tells
 faults held writes told note_writes tree reads_before reads_after words before notes_before notes_after (causes.Elf fault) answered journal after caused tells =
     told_or_forgotten held writes told note_writes tree reads_before reads_after words before notes_before notes_after (causes.Elf fault) answered journal after caused tt tells
+faults held writes told note_writes tree reads_before reads_after words before notes_before notes_after (causes.StackTooLong size) answered journal after caused tells =
+    told_or_forgotten held writes told note_writes tree reads_before reads_after words before notes_before notes_after (causes.StackTooLong size) answered journal after caused tt tells
 faults held writes told note_writes tree reads_before reads_after words before notes_before notes_after (causes.PagesFull wanted) answered journal after caused tells =
     told_or_forgotten held writes told note_writes tree reads_before reads_after words before notes_before notes_after (causes.PagesFull wanted) answered journal after caused tt tells
 faults held writes told note_writes tree reads_before reads_after words before notes_before notes_after (causes.ReadFault part) answered journal after caused tells =

@@ -1,25 +1,24 @@
 -- When a run must come to an end, but for want of memory.
 -- The project's own.
-use Rattle.std.specs.Prelude.{◌≡◌, ◌≤◌, ℕ, List, map, Option, Some, None, Ok, slice_index}
+use Rattle.std.specs.Prelude.{◌≡◌, ℕ, List, map, Option, Some, None, Ok, slice_index}
 use Rattle.elf_file.specs.Reading.{Image, reading}
-use Rattle.guest_core.specs.Start.{wanted_pages, most_pages}
+use Rattle.cli_words.specs.Command.{Asked, IsAsked}
+use Rattle.guest_core.specs.Start.{FitsIn}
 use Rattle.emu_top.specs.declared.folder.Entry.{Entry}
 use Rattle.emu_top.specs.Files.{listed, IsFileOf}
-use Rattle.emu_top.specs.Solo.{HasProgram}
+use Rattle.emu_top.specs.Solo.{HasProgram, launched}
 use Rattle.emu_top.specs.Told.{Rose}
-use Rattle.emu_top.specs.Words.{IsSolo}
 
--- the bytes are those of a file that starts
-abbrev pub Starts : List ℕ → Type 0
-Starts bytes = (elf : Image) × (reading bytes ≡ Ok elf) × (wanted_pages elf ≤ most_pages)
+-- the bytes are those of a file that starts with what is asked for
+abbrev pub Starts : Asked → List ℕ → Type 0
+Starts asked bytes = (elf : Image) × (reading bytes ≡ Ok elf) × FitsIn (launched asked elf)
 
 -- the words name a file of these entries that starts
 pub record Names (entries : List Entry) (words : List (List ℕ)) : Type 0 where
-  pub folder : List ℕ
-  pub program : List ℕ
-  pub solo : IsSolo words folder program
-  pub has : HasProgram (map listed entries) program
-  pub starts : (bytes : List ℕ) → IsFileOf entries program bytes → Starts bytes
+  pub asked : Asked
+  pub asks : IsAsked words asked
+  pub has : HasProgram (map listed entries) asked.program
+  pub starts : (bytes : List ℕ) → IsFileOf entries asked.program bytes → Starts asked bytes
 
 -- the folder tells its entries, and the words name a file of them that starts
 abbrev pub IsRunnable : Option (List Entry) → List (List ℕ) → Type 0

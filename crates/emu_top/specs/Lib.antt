@@ -1,6 +1,5 @@
 pub mod Told
 pub mod Files
-pub mod Words
 pub mod Journal
 pub mod Sending
 pub mod Running

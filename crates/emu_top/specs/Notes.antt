@@ -14,11 +14,11 @@ use Rattle.emu_top.specs.Told.{more, Rose, HoldsBeginning}
 abbrev pub newline : List ℕ
 newline = 10 ∷ []
 
--- the line of an end, none where the program ended by itself
-abbrev pub end_line : End → Option (List ℕ)
-end_line (Exit code) = None
-end_line (Killed signal) = Some (codes "rvuser: killed by signal " ++ (decimal signal ++ newline))
-end_line Budget = Some (codes "rvuser: budget of 4194304 events spent\n")
+-- the line of an end under a budget, none where the program ended by itself
+abbrev pub end_line : ℕ → End → Option (List ℕ)
+end_line budget (Exit code) = None
+end_line budget (Killed signal) = Some (codes "rvuser: killed by signal " ++ (decimal signal ++ newline))
+end_line budget Budget = Some (codes "rvuser: budget of " ++ (decimal budget ++ codes " events spent\n"))
 
 abbrev pub part_text : Part → List ℕ
 part_text parts.Folder = codes "folder"
@@ -34,8 +34,10 @@ fault_text elf.Kind = codes "Kind"
 fault_text elf.FloatAbi = codes "FloatAbi"
 fault_text elf.Embedded = codes "Embedded"
 fault_text (elf.HeaderSize size) = codes "HeaderSize " ++ decimal size
-fault_text elf.NotYet = codes "NotYet"
+fault_text elf.Interpreter = codes "Interpreter"
 fault_text (elf.BadSegment index) = codes "BadSegment " ++ decimal index
+fault_text (elf.WritableCode index) = codes "WritableCode " ++ decimal index
+fault_text (elf.Overlap first second) = codes "Overlap " ++ (decimal first ++ (codes " " ++ decimal second))
 fault_text elf.Entry = codes "Entry"
 fault_text elf.Memory = codes "Memory"
 
@@ -44,6 +46,7 @@ abbrev pub cause_line : Cause → List ℕ
 cause_line (causes.Usage word) = codes "rvuser: usage: word " ++ (decimal word ++ newline)
 cause_line (causes.NoProgram program) = codes "rvuser: no file " ++ (program ++ newline)
 cause_line (causes.Elf fault) = codes "rvuser: not runnable: " ++ (fault_text fault ++ newline)
+cause_line (causes.StackTooLong size) = codes "rvuser: stack texts of " ++ (decimal size ++ codes " bytes\n")
 cause_line (causes.PagesFull wanted) = codes "rvuser: " ++ (decimal wanted ++ codes " pages wanted\n")
 cause_line (causes.ReadFault part) = codes "rvuser: read failed: " ++ (part_text part ++ newline)
 cause_line (causes.WriteFault part) = codes "rvuser: write failed: " ++ (part_text part ++ newline)
@@ -71,8 +74,8 @@ TellsFault told writes cause before after answered =
     ((answered ≡ cause) × Tries told writes (cause_line cause) before after) ⊎ ((answered ≡ causes.Memory) × (after ≡ before))
 
 -- Why an end wasn't told: the sink failed at its line, or there was no memory for it.
-abbrev pub EndsUntold : {K : Type 0} → (K → Option (List ℕ)) → (K → ℕ) → End → K → K → Cause → Type 0
-EndsUntold told writes end before after (causes.WriteFault parts.Notes) =
-    (line : List ℕ) × (end_line end ≡ Some line) × FailsToTell told writes line before after
-EndsUntold told writes end before after causes.Memory = after ≡ before
-EndsUntold told writes end before after cause = ⊥
+abbrev pub EndsUntold : {K : Type 0} → (K → Option (List ℕ)) → (K → ℕ) → ℕ → End → K → K → Cause → Type 0
+EndsUntold told writes budget end before after (causes.WriteFault parts.Notes) =
+    (line : List ℕ) × (end_line budget end ≡ Some line) × FailsToTell told writes line before after
+EndsUntold told writes budget end before after causes.Memory = after ≡ before
+EndsUntold told writes budget end before after cause = ⊥

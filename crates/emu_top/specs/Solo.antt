@@ -4,11 +4,14 @@ use Rattle.std.specs.Prelude.{◌≡◌, ◌≢◌, ◌⊎◌, ◌<◌, ◌≤�
 use Rattle.std.specs.List.{starts_with}
 use Rattle.elf_file.specs.declared.fault.ElfFault.TheVariants as elf_faults
 use Rattle.elf_file.specs.Reading.{Image, reading}
+use Rattle.cli_words.specs.Command.{Asked, IsAsked}
+use Rattle.cli_words.specs.FirstWrong.{IsAccepted, IsFirstWrong}
+use Rattle.start_stack.specs.Placing.{stack_size, told_size, most_bytes}
 use Rattle.guest_core.specs.declared.ends.End.{End}
 use Rattle.guest_core.specs.declared.ends.End.TheVariants.{Exit, Killed, Budget}
 use Rattle.guest_core.specs.Machine.{Machine}
 use Rattle.guest_core.specs.Event.{run}
-use Rattle.guest_core.specs.Start.{started, wanted_pages, most_pages}
+use Rattle.guest_core.specs.Start.{Program, program_of, started, wanted_pages, told_pages, most_pages, FitsIn}
 use Rattle.guest_core.specs.declared.starting.StartFault.{StartFault}
 use Rattle.guest_core.specs.declared.starting.StartFault.TheVariants as starts
 use Rattle.linux_model.specs.Process.{ProcessState, begun, seen_outputs, seen_end}
@@ -28,11 +31,6 @@ use Rattle.emu_top.specs.Running.{IsEnd}
 use Rattle.emu_top.specs.Sending.{sent, SentUpTo}
 use Rattle.emu_top.specs.Told.{Rose}
 use Rattle.emu_top.specs.View.{view}
-use Rattle.emu_top.specs.Words.{IsSolo, IsAccepted, IsFirstWrong}
-
--- the most events of a run
-abbrev pub budget : ℕ
-budget = 4194304
 
 -- the status of the program at an end
 abbrev pub status_of : End → ℕ
@@ -55,26 +53,33 @@ pub record Found (tree : Option (List Entry)) (program bytes : List ℕ) : Type 
   pub has : HasProgram listing program
   pub reads : Reads tree program bytes
 
--- the words name a program of the folder, and its bytes are a file that starts so
-pub record Prepared (tree : Option (List Entry)) (words : List (List ℕ)) (elf : Image) : Type 0 where
-  pub folder : List ℕ
-  pub program : List ℕ
+-- the words ask for a program of the folder, and its bytes are a file that starts so
+pub record Prepared (tree : Option (List Entry)) (words : List (List ℕ)) (asked : Asked) (elf : Image) : Type 0 where
   pub bytes : List ℕ
-  pub solo : IsSolo words folder program
-  pub found : Found tree program bytes
+  pub asks : IsAsked words asked
+  pub found : Found tree asked.program bytes
   pub elf_is : reading bytes ≡ Ok elf
 
+-- the arguments: the program's name, and the words behind `--`
+abbrev pub args_of : Asked → List (List ℕ)
+args_of asked = asked.program ∷ asked.args
+
+-- what is started
+abbrev pub launched : Asked → Image → Program
+launched asked elf = program_of elf (args_of asked) asked.env
+
 -- The words, the folder and the number of devices give a start, and the journal's events are a run from it: each is
--- enabled after those before it. They number at most the budget. Their labels are a run of the process machine from
--- its own start, whose last state is the view of the core's.
+-- enabled after those before it. They number at most the budget that the words ask for. Their labels are a run of the
+-- process machine from its own start, whose last state is the view of the core's.
 pub record Journeys (tree : Option (List Entry)) (words : List (List ℕ)) (devices : ℕ) (journal : History) (last : Machine) (process : ProcessState) : Type 0 where
+  pub asked : Asked
   pub elf : Image
-  pub prepared : Prepared tree words elf
-  pub pages_fit : wanted_pages elf ≤ most_pages
-  pub enabled : run (Some (started elf devices)) journal.events ≡ Some last
+  pub prepared : Prepared tree words asked elf
+  pub fits : FitsIn (launched asked elf)
+  pub enabled : run (Some (started (launched asked elf) devices)) journal.events ≡ Some last
   pub within : length journal.events ≤ journal.budget
-  pub budget_is : journal.budget ≡ budget
-  pub labels_are_a_run : follow (Some (begun elf devices)) (run_labels (Some (started elf devices)) journal.events) ≡ Some process
+  pub budget_is : journal.budget ≡ asked.budget
+  pub labels_are_a_run : follow (Some (begun (launched asked elf) devices)) (run_labels (Some (started (launched asked elf) devices)) journal.events) ≡ Some process
   pub viewed : process ≡ view last
 
 -- what a run that came to an end answers
@@ -82,33 +87,33 @@ pub record Finishes {D : Type 0} (held : D → Option (List ℕ)) (tree : Option
   pub last : Machine
   pub process : ProcessState
   pub journeys : Journeys tree words (length before) journal last process
-  pub end_is : IsEnd (seen_end process) (length journal.events) budget end
+  pub end_is : IsEnd (seen_end process) (length journal.events) journal.budget end
   pub status_is : status ≡ status_of end
   -- each device holds what it held, and what is seen of the run behind that
   pub all_sent : map held after ≡ sent (map held before) (seen_outputs process)
 
--- a run from a core, with the journal under the budget
-pub record RunsFrom (core : Machine) (journal : History) (last : Machine) : Type 0 where
+-- a run from a core, with the journal under a budget
+pub record RunsFrom (core : Machine) (budget : ℕ) (journal : History) (last : Machine) : Type 0 where
   pub enabled : run (Some core) journal.events ≡ Some last
   pub within : length journal.events ≤ journal.budget
   pub budget_is : journal.budget ≡ budget
 
 -- the same of a run from a core
-pub record CoreFinishes {D : Type 0} (held : D → Option (List ℕ)) (core : Machine) (before : List D) (end : End) (status : ℕ) (journal : History) (after : List D) : Type 0 where
+pub record CoreFinishes {D : Type 0} (held : D → Option (List ℕ)) (core : Machine) (budget : ℕ) (before : List D) (end : End) (status : ℕ) (journal : History) (after : List D) : Type 0 where
   pub last : Machine
-  pub runs : RunsFrom core journal last
-  pub end_is : IsEnd last.end (length journal.events) budget end
+  pub runs : RunsFrom core budget journal last
+  pub end_is : IsEnd last.end (length journal.events) journal.budget end
   pub status_is : status ≡ status_of end
   pub all_sent : map held after ≡ sent (map held before) last.shared.outputs
 
-abbrev pub CoreStops : {D : Type 0} → (D → Option (List ℕ)) → (D → ℕ) → Machine → List D → Halt → History → List D → Type 0
-CoreStops held writes core before (halts.Device device) journal after =
-    (last : Machine) × RunsFrom core journal last
+abbrev pub CoreStops : {D : Type 0} → (D → Option (List ℕ)) → (D → ℕ) → Machine → ℕ → List D → Halt → History → List D → Type 0
+CoreStops held writes core budget before (halts.Device device) journal after =
+    (last : Machine) × RunsFrom core budget journal last
     × SentUpTo (map held before) last.shared.outputs device (map held after)
     × (device < length before)
     × Rose (slice_index (map writes before) device) (slice_index (map writes after) device)
-CoreStops held writes core before halts.Memory journal after =
-    (last : Machine) × RunsFrom core journal last × (map held after ≡ sent (map held before) last.shared.outputs)
+CoreStops held writes core budget before halts.Memory journal after =
+    (last : Machine) × RunsFrom core budget journal last × (map held after ≡ sent (map held before) last.shared.outputs)
 
 -- nothing was started
 pub record Untouched {D : Type 0} (before : List D) (journal : History) (after : List D) : Type 0 where
@@ -135,13 +140,17 @@ pub record Wants {D : Type 0} (held : D → Option (List ℕ)) (tree : Option (L
 abbrev pub Unprepared : Option (List Entry) → ℕ → ℕ → List (List ℕ) → Cause → Type 0
 Unprepared tree reads_before reads_after words (causes.Usage word) = IsFirstWrong words word
 Unprepared tree reads_before reads_after words (causes.NoProgram program) =
-    (folder : List ℕ) × IsSolo words folder program
+    (asked : Asked) × IsAsked words asked × (asked.program ≡ program)
     × ((listing : List Listed) × Lists tree listing × (HasProgram listing program → ⊥))
 Unprepared tree reads_before reads_after words (causes.Elf fault) =
-    (folder : List ℕ) × (program : List ℕ) × (bytes : List ℕ) × IsSolo words folder program
-    × Found tree program bytes × (reading bytes ≡ Err fault) × (fault ≢ elf_faults.Memory)
+    (asked : Asked) × (bytes : List ℕ) × IsAsked words asked
+    × Found tree asked.program bytes × (reading bytes ≡ Err fault) × (fault ≢ elf_faults.Memory)
+Unprepared tree reads_before reads_after words (causes.StackTooLong size) =
+    (asked : Asked) × (elf : Image) × Prepared tree words asked elf
+    × (size ≡ told_size (args_of asked) asked.env) × (most_bytes < stack_size (args_of asked) asked.env)
 Unprepared tree reads_before reads_after words (causes.PagesFull wanted) =
-    (elf : Image) × Prepared tree words elf × (wanted ≡ wanted_pages elf) × (most_pages < wanted)
+    (asked : Asked) × (elf : Image) × Prepared tree words asked elf
+    × (wanted ≡ told_pages elf) × (most_pages < wanted_pages elf) × (stack_size (args_of asked) asked.env ≤ most_bytes)
 Unprepared tree reads_before reads_after words (causes.ReadFault parts.Folder) =
     IsAccepted words × Rose reads_before reads_after
 Unprepared tree reads_before reads_after words (causes.ReadFault (parts.Device device)) = ⊥
@@ -165,7 +174,7 @@ pub record Unended {D : Type 0} (held : D → Option (List ℕ)) (tree : Option 
   pub end : End
   pub status : ℕ
   pub finishes : Finishes held tree words before end status journal after
-  pub has_line : end_line end ≡ Some line
+  pub has_line : end_line journal.budget end ≡ Some line
 
 -- Each cause of a fault, and what it leaves. A fault's line stands on the notes, or a beginning of it where they
 -- failed. Want of memory leaves the notes as they were: it may come before the start, in a run, at the making of an
@@ -183,6 +192,7 @@ abbrev pub fault_status : Cause → ℕ
 fault_status (causes.Usage word) = 64
 fault_status (causes.NoProgram program) = 66
 fault_status (causes.Elf fault) = 65
+fault_status (causes.StackTooLong size) = 65
 fault_status (causes.PagesFull wanted) = 65
 fault_status (causes.ReadFault part) = 74
 fault_status (causes.WriteFault part) = 74
@@ -195,5 +205,6 @@ halt_cause halts.Memory = causes.Memory
 
 -- the cause that a start was refused for
 abbrev pub start_cause : StartFault → Cause
+start_cause (starts.StackTooLong size) = causes.StackTooLong size
 start_cause (starts.PagesFull wanted) = causes.PagesFull wanted
 start_cause starts.Memory = causes.Memory

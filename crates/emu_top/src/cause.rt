@@ -19,6 +19,8 @@ pub enum Cause {
     NoProgram(Text),
     /// The program is no file that can be loaded.
     Elf(ElfFault),
+    /// The texts and the words of the program's first stack take this many bytes, which are more than 131,072.
+    StackTooLong { size: u64 },
     /// The program wants this many pages of 4096 bytes, which are more than 65,536.
     PagesFull { wanted: u64 },
     /// Reading failed.
@@ -41,6 +43,7 @@ impl Cause {
             Cause::Usage { .. } => 64,
             Cause::NoProgram(_) => 66,
             Cause::Elf(_) => 65,
+            Cause::StackTooLong { .. } => 65,
             Cause::PagesFull { .. } => 65,
             Cause::ReadFault(_) => 74,
             Cause::WriteFault(_) => 74,

@@ -1,8 +1,8 @@
 ghost use Rattle.std.specs.Prelude.{◌≡◌, ◌++◌, ℕ, List, Option, IfOk, OnOk, OnErr};
 ghost use Rattle.emu_top.specs.Told.{HasCause, Rose};
 
-use elf_file::Bytes;
 use file_tree::Text;
+use le_fields::Bytes;
 use std::alloc::Global;
 
 /// Why a call of a folder failed.

@@ -23,8 +23,6 @@ const KIND: Outcome = Outcome::Refused("rvuser: not runnable: Kind\n");
 
 const FLOAT_ABI: Outcome = Outcome::Refused("rvuser: not runnable: FloatAbi\n");
 
-const NOT_YET: Outcome = Outcome::Refused("rvuser: not runnable: NotYet\n");
-
 const BAD_SEGMENT: Outcome = Outcome::Refused("rvuser: not runnable: BadSegment 0\n");
 
 const ENTRY: Outcome = Outcome::Refused("rvuser: not runnable: Entry\n");
@@ -58,11 +56,11 @@ fn with_zero(place: usize) -> Outcome {
         18 => NOT_RISCV,
         // entry 0
         26 => ENTRY,
-        // the program header stands at 0, whose type is that of the magic
-        32 => NOT_YET,
+        // the program header stands at 0, whose type is that of the magic: nothing is loaded
+        32 => ENTRY,
         54 => Outcome::Refused("rvuser: not runnable: HeaderSize 0\n"),
-        // no program header, a type of 0, no permission
-        56 | 64 | 68 => NOT_YET,
+        // no program header, a type of 0, no permission: nothing can be executed
+        56 | 64 | 68 => ENTRY,
         // the segment's bytes begin with the file's, which begin with no instruction
         73 => Outcome::IsIllegal,
         // the segment stands at 0
@@ -83,8 +81,8 @@ fn with_ones(place: usize) -> Outcome {
         18 | 19 => NOT_RISCV,
         // an odd entry, or one behind the segment
         24..=31 => ENTRY,
-        // the program header stands at 255, where bytes are 0
-        32 => NOT_YET,
+        // the program header stands at 255, where bytes are 0: nothing is loaded
+        32 => ENTRY,
         // behind the file
         33..=39 => SHORT,
         48 => FLOAT_ABI,
@@ -92,8 +90,10 @@ fn with_ones(place: usize) -> Outcome {
         55 => Outcome::Refused("rvuser: not runnable: HeaderSize 65336\n"),
         // 255 program headers, or 65281
         56 | 57 => SHORT,
-        // another type, and a segment that can be written
-        64..=68 => NOT_YET,
+        // another type: nothing is loaded
+        64..=67 => ENTRY,
+        // a segment that can be written and executed
+        68 => Outcome::Refused("rvuser: not runnable: WritableCode 0\n"),
         // its bytes end behind the file
         72..=79 => BAD_SEGMENT,
         // it stands behind the entry
@@ -103,7 +103,7 @@ fn with_ones(place: usize) -> Outcome {
         // it has more bytes in the file than in memory
         96..=103 => BAD_SEGMENT,
         // 0xFF000027 bytes
-        107 => Outcome::Refused("rvuser: 1044481 pages wanted\n"),
+        107 => Outcome::Refused("rvuser: 1046530 pages wanted\n"),
         // it ends too high
         108..=111 => BAD_SEGMENT,
         _ => Outcome::Writes,
@@ -203,11 +203,12 @@ fn a_segment_of_no_byte(rt: HostRuntime) -> Result<(), Fail> {
 
 #[test]
 fn one_page_too_many(rt: HostRuntime) -> Result<(), Fail> {
-    // 65,536 pages and a byte; and a segment that covers 65,537 by where it stands
-    let bytes = changed(rt.alloc(), 104, &0x1000_0001u64.to_le_bytes())?;
+    // with 2,049 pages of the stack and the trampoline: 63,487 pages and a byte; and a segment that covers 63,488 by where
+    // it stands
+    let bytes = changed(rt.alloc(), 104, &0x0F7F_F001u64.to_le_bytes())?;
     let refused = Outcome::Refused("rvuser: 65537 pages wanted\n");
     assert!(rt; agrees(rt.alloc(), bytes, refused)?);
-    let mut bytes = changed(rt.alloc(), 104, &0x1000_0000u64.to_le_bytes())?;
+    let mut bytes = changed(rt.alloc(), 104, &0x0F7F_F000u64.to_le_bytes())?;
     if bytes.len() < 4096 {
         return Err("the file has its text at 4096")?;
     }

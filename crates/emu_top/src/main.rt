@@ -40,7 +40,6 @@ mod streams;
 #[cfg(test)]
 mod tests;
 mod top;
-mod words;
 
 use real_folder::RealFolder;
 use std::alloc::{AllocError, Global};

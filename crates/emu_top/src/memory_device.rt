@@ -2,7 +2,7 @@ ghost use Rattle.std.specs.Prelude.{◌≡◌, ◌+◌, [], Some, drop};
 
 use crate::device::{Device, DeviceFailed};
 use crate::failing::Failing;
-use elf_file::Bytes;
+use le_fields::Bytes;
 use std::alloc::Global;
 
 /// A device in memory, which tells what it has left and what it holds. It fails at the gives and takes of the numbers

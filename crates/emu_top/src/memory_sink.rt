@@ -2,7 +2,7 @@ ghost use Rattle.std.specs.Prelude.{◌≡◌, [], Some};
 
 use crate::failing::Failing;
 use crate::sink::{Sink, SinkFailed};
-use elf_file::Bytes;
+use le_fields::Bytes;
 use std::alloc::Global;
 
 /// A sink in memory, which tells what it holds. It fails at the puts of the numbers that it is given, which put the

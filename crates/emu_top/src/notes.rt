@@ -10,8 +10,9 @@ use elf_file::ElfFault;
 use guest_core::End;
 use std::alloc::{AllocError, Global};
 
-pub fn line_of_end(alloc: Global, end: &End) -> Result<Option<String>, AllocError>
-    ensures { IfOk result (λ line. option_map string_bytes line ≡ end_line end.now) }
+/// The line of an end under a budget, where it has one.
+pub fn line_of_end(alloc: Global, budget: u32, end: &End) -> Result<Option<String>, AllocError>
+    ensures { IfOk result (λ line. option_map string_bytes line ≡ end_line budget end.now) }
 {
     match end {
         End::Exit(_) => Ok(None),
@@ -19,10 +20,7 @@ pub fn line_of_end(alloc: Global, end: &End) -> Result<Option<String>, AllocErro
             let signal = signal.number();
             Ok(Some(format!(in alloc; "rvuser: killed by signal {signal}\n")?))
         }
-        End::Budget => Ok(Some(String::from_str(
-            alloc,
-            "rvuser: budget of 4194304 events spent\n",
-        )?)),
+        End::Budget => Ok(Some(format!(in alloc; "rvuser: budget of {budget} events spent\n")?)),
     }
 }
 
@@ -47,8 +45,10 @@ fn text_of_fault(alloc: Global, fault: &ElfFault) -> Result<String, AllocError>
         ElfFault::FloatAbi => String::from_str(alloc, "FloatAbi"),
         ElfFault::Embedded => String::from_str(alloc, "Embedded"),
         ElfFault::HeaderSize(size) => format!(in alloc; "HeaderSize {size}"),
-        ElfFault::NotYet => String::from_str(alloc, "NotYet"),
+        ElfFault::Interpreter => String::from_str(alloc, "Interpreter"),
         ElfFault::BadSegment(index) => format!(in alloc; "BadSegment {index}"),
+        ElfFault::WritableCode(index) => format!(in alloc; "WritableCode {index}"),
+        ElfFault::Overlap(first, second) => format!(in alloc; "Overlap {first} {second}"),
         ElfFault::Entry => String::from_str(alloc, "Entry"),
         ElfFault::Memory => String::from_str(alloc, "Memory"),
     }
@@ -64,6 +64,9 @@ pub fn line_of_cause(alloc: Global, cause: &Cause) -> Result<String, AllocError>
         Cause::Elf(fault) => {
             let text = text_of_fault(alloc, fault)?;
             line(alloc, "rvuser: not runnable: ", text.as_str())
+        }
+        Cause::StackTooLong { size } => {
+            format!(in alloc; "rvuser: stack texts of {size} bytes\n")
         }
         Cause::PagesFull { wanted } => format!(in alloc; "rvuser: {wanted} pages wanted\n"),
         Cause::ReadFault(part) => {

@@ -9,9 +9,10 @@ use crate::memory_folder::MemFolder;
 use crate::memory_sink::MemSink;
 use crate::sink::{Sink, SinkFailed};
 use crate::top::{Finished, TopFault, solo_top};
-use elf_file::{Bytes, ElfFault};
+use elf_file::ElfFault;
 use file_tree::Text;
 use guest_core::End;
+use le_fields::Bytes;
 use std::alloc::{AllocError, Global};
 use std::test::Fail;
 
@@ -218,7 +219,7 @@ fn writes_to_its_device(rt: HostRuntime) -> Result<(), Fail> {
 }
 
 #[test]
-fn a_second_program_header_is_refused(rt: HostRuntime) -> Result<(), Fail> {
+fn two_segments_of_the_same_bytes_are_refused(rt: HostRuntime) -> Result<(), Fail> {
     let mut bytes = file_of(rt.alloc(), &WRITES_HI, b"hi\n")?;
     if bytes.len() < 4096 {
         return Err("the file has its text at 4096")?;
@@ -231,11 +232,11 @@ fn a_second_program_header_is_refused(rt: HostRuntime) -> Result<(), Fail> {
     let Err(fault) = answer else {
         return Err("it is refused")?;
     };
-    assert!(rt; matches!(fault.cause, Cause::Elf(ElfFault::NotYet)));
+    assert!(rt; matches!(fault.cause, Cause::Elf(ElfFault::Overlap(0, 1))));
     assert_eq!(rt; fault.cause.status(), 65);
     assert_eq!(rt;
         line.as_slice(),
-        b"rvuser: not runnable: NotYet\n".as_slice()
+        b"rvuser: not runnable: Overlap 0 1\n".as_slice()
     );
     assert_eq!(rt; fault.journal.count(), 0);
     Ok(())
@@ -309,7 +310,7 @@ fn a_program_that_is_no_file_of_the_folder(rt: HostRuntime) -> Result<(), Fail> 
 
 #[test]
 fn the_first_wrong_word(rt: HostRuntime) -> Result<(), Fail> {
-    let table: [(&[&str], usize); 14] = [
+    let table: [(&[&str], usize); 18] = [
         (&[], 0),
         (&["run", ".", "p"], 0),
         (&["solo"], 1),
@@ -324,6 +325,10 @@ fn the_first_wrong_word(rt: HostRuntime) -> Result<(), Fail> {
         (&["solo", ".", "d/../p"], 2),
         (&["solo", ".", "./p"], 2),
         (&["solo", ".", "p", "p"], 3),
+        (&["solo", ".", "p", "--keep", "--keep"], 3),
+        (&["solo", ".", "p", "--budget"], 4),
+        (&["solo", ".", "p", "--budget", "05"], 4),
+        (&["solo", ".", "p", "--env", "=v"], 4),
     ];
     for (words, index) in table {
         let bytes = file_of(rt.alloc(), &EXITS, &[])?;
@@ -489,5 +494,128 @@ fn objects_in_memory(rt: HostRuntime) -> Result<(), Fail> {
     assert_eq!(rt; sink.put(b"ab"), Ok(()));
     assert_eq!(rt; sink.put(b"cd"), Err(SinkFailed));
     assert_eq!(rt; sink.contents(), b"abc".as_slice());
+    Ok(())
+}
+
+/// The answer for a program that is run with these words behind its name.
+fn answer_with(
+    alloc: Global,
+    code: &[u32],
+    more: &[&str],
+) -> Result<(Answer, Vec<u8>), AllocError> {
+    let bytes = file_of(alloc, code, &[])?;
+    let mut folder = folder(alloc, bytes, Vec::new(alloc), Vec::new(alloc))?;
+    let mut words = vec![in alloc; "solo"; 1]?;
+    words.push(".")?;
+    words.push("p")?;
+    words.extend_from_slice(more)?;
+    answer(alloc, &words, &mut folder, Vec::new(alloc))
+}
+
+#[test]
+fn the_budget_that_the_words_give(rt: HostRuntime) -> Result<(), Fail> {
+    for (budget, steps_made) in [("0", None), ("4", Some(4))] {
+        let (answer, line) = answer_with(rt.alloc(), &EXITS, &["--budget", budget])?;
+        let Ok(finished) = answer else {
+            return Err("it finishes")?;
+        };
+        assert!(rt; matches!(finished.end, End::Budget));
+        assert_eq!(rt; finished.status, 75);
+        assert_eq!(rt; steps(&finished.journal), steps_made);
+        let wanted = format!(in rt.alloc(); "rvuser: budget of {budget} events spent\n")?;
+        assert_eq!(rt; line.as_slice(), wanted.as_str().as_bytes());
+        assert_eq!(rt; contents(&finished.devices, 1), [].as_slice());
+    }
+    let (answer, line) = answer_with(rt.alloc(), &EXITS, &["--budget", "5"])?;
+    let Ok(finished) = answer else {
+        return Err("it finishes")?;
+    };
+    assert!(rt; matches!(finished.end, End::Exit(7)));
+    assert_eq!(rt; finished.journal.budget(), 5);
+    assert_eq!(rt; line.as_slice(), b"".as_slice());
+    Ok(())
+}
+
+#[test]
+fn a_program_finds_the_number_of_its_arguments(rt: HostRuntime) -> Result<(), Fail> {
+    // ld a0, 0(sp), and the end with a0
+    let code = [0x0001_3503, 0x05E0_0893, 0x0000_0073];
+    for (more, status) in [
+        (["--", "x"].as_slice(), 2),
+        (&["--", "", "--", "-y"], 4),
+        (&[], 1),
+    ] {
+        let (answer, _) = answer_with(rt.alloc(), &code, more)?;
+        let Ok(finished) = answer else {
+            return Err("it finishes")?;
+        };
+        assert_eq!(rt; finished.status, status);
+    }
+    Ok(())
+}
+
+#[test]
+fn a_program_writes_its_environment(rt: HostRuntime) -> Result<(), Fail> {
+    // ld a1, 24(sp), which is the address of the first text of the environment; three of its bytes to descriptor 1
+    let code = [
+        0x0181_3583,
+        0x0010_0513,
+        0x0030_0613,
+        0x0400_0893,
+        0x0000_0073,
+        0x0000_0513,
+        0x05E0_0893,
+        0x0000_0073,
+    ];
+    let (answer, _) = answer_with(rt.alloc(), &code, &["--env", "K=v", "--env", "L=w"])?;
+    let Ok(finished) = answer else {
+        return Err("it finishes")?;
+    };
+    assert_eq!(rt; finished.status, 0);
+    assert_eq!(rt; contents(&finished.devices, 1), b"K=v".as_slice());
+    Ok(())
+}
+
+#[test]
+fn a_program_stores_on_its_stack(rt: HostRuntime) -> Result<(), Fail> {
+    // li a0, 9; sd a0, -16(sp); li a0, 0; ld a0, -16(sp); and the end with a0
+    let code = [
+        0x0090_0513,
+        0xFEA1_3823,
+        0x0000_0513,
+        0xFF01_3503,
+        0x05E0_0893,
+        0x0000_0073,
+    ];
+    let (answer, _) = answer_with(rt.alloc(), &code, &[])?;
+    let Ok(finished) = answer else {
+        return Err("it finishes")?;
+    };
+    assert_eq!(rt; finished.status, 9);
+    Ok(())
+}
+
+#[test]
+fn texts_that_are_too_long_for_the_stack(rt: HostRuntime) -> Result<(), Fail> {
+    // the name twice and the argument, each with a zero, 16 random bytes, and 33 words
+    for (length, size) in [
+        (130_787, None),
+        (130_788, Some(131_073)),
+        (131_072, Some(131_357)),
+    ] {
+        let text = vec![in rt.alloc(); b'x'; length]?;
+        let argument = String::from_utf8(text)?;
+        let (answer, line) = answer_with(rt.alloc(), &EXITS, &["--", argument.as_str()])?;
+        match (answer, size) {
+            (Ok(finished), None) => assert_eq!(rt; finished.status, 7),
+            (Err(fault), Some(size)) => {
+                assert!(rt; matches!(fault.cause, Cause::StackTooLong { .. }));
+                assert_eq!(rt; fault.cause.status(), 65);
+                let wanted = format!(in rt.alloc(); "rvuser: stack texts of {size} bytes\n")?;
+                assert_eq!(rt; line.as_slice(), wanted.as_str().as_bytes());
+            }
+            _ => assert!(rt; false),
+        }
+    }
     Ok(())
 }

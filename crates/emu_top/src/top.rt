@@ -4,6 +4,8 @@ ghost use Rattle.std.specs.Prelude.{◌≡◌, ◌≤◌, ◌<◌, [], map, leng
 ghost use Rattle.std.specs.String.{string_bytes};
 ghost use Rattle.emu_top.specs.Sending.{sent};
 ghost use Rattle.emu_top.specs.Complete.{IsRunnable, NoneRose};
+ghost use Rattle.elf_file.specs.Reading.{image};
+ghost use Rattle.guest_core.specs.Start.{program_of, Starts};
 ghost use Rattle.emu_top.specs.Notes.{end_line, TellsEnd, TellsFault, EndsUntold};
 ghost use Rattle.emu_top.specs.Solo.{CoreFinishes, CoreStops, Finishes, IsCaused, Faults, halt_cause, start_cause, status_of as end_status};
 ghost use Rattle.emu_top.specs.declared.cause.Cause.TheVariants.{Memory as memory};
@@ -13,14 +15,14 @@ use crate::device::Device;
 use crate::folder::Folder;
 use crate::journal::Journal;
 use crate::notes::{line_of_cause, line_of_end};
-use crate::prepare::prepare;
+use crate::prepare::{Launch, prepare};
 use crate::sink::Sink;
 use crate::solo::{Halt, Run, run_to_end};
 use guest_core::{Core, End, StartFault, start};
 use std::alloc::Global;
 
-/// The most events of a run.
-const BUDGET: u32 = 4_194_304;
+/// The budget of a journal that no run was made for.
+const NO_RUN: u32 = 0;
 
 /// A run that came to an end.
 #[derive(Drop)]
@@ -47,12 +49,13 @@ struct Stopped<D: Device> {
     devices: Vec<D>,
 }
 
-/// Runs the program that the words name: `solo FOLDER PROGRAM`. The folder is listed and the program alone is read;
+/// Runs the program that the words name: `solo FOLDER PROGRAM [--budget N] [--env K=V ..] [-- ARGS]`. The folder is listed and the program alone is read;
 /// nothing is written to the folder. The devices are those of the guest's descriptors from 0 on. One line is written on
 /// the notes for each end but that of a program that ended by itself, and for each fault but want of memory and a
 /// failure of the notes.
 ///
-/// It costs by the listing, by the size of the program's segment and by the number of its steps, at most 4194304.
+/// It costs by the listing, by the size of the program's segments, by the 2,048 pages of its stack, and by the number of
+/// its steps, at most the budget.
 #[tactic(auto, using(crate::proofs::TopFacts::faults, crate::proofs::CompleteFacts::complete, crate::proofs::CompleteFacts::complete_told))]
 pub fn solo_top<F: Folder, K: Sink, D: Device>(
     alloc: Global,
@@ -66,7 +69,7 @@ pub fn solo_top<F: Folder, K: Sink, D: Device>(
     // process machine. The end and the status are by its last state, and each device holds what it held, and what is
     // seen of the run behind that. The end's line stands on the notes.
     ensures finished { IfOk result (λ f. Finishes D.held (F.tree folder.old) (map string_bytes words.now) devices.items f.end f.status f.journal f.devices.items) }
-    ensures told { IfOk result (λ f. TellsEnd K.held (end_line f.end) notes.old notes.new) }
+    ensures told { IfOk result (λ f. TellsEnd K.held (end_line f.journal.budget f.end) notes.old notes.new) }
     // Each fault comes only where its cause holds, and carries what was done. Its line stands on the notes.
     ensures caused { IfErr result (λ f. Faults D.held D.failed_writes K.held K.failed_writes (F.tree folder.old) (F.failed_reads folder.old) (F.failed_reads folder.new) (map string_bytes words.now) devices.items notes.old notes.new f.cause f.journal f.devices.items) }
     // Where the words name a file of the folder that starts, and no count rose, only want of memory is left.
@@ -85,10 +88,10 @@ fn tell_end<K: Sink, D: Device>(
     finished: Finished<D>,
     notes: &mut K,
 ) -> Result<Finished<D>, TopFault<D>>
-    ensures told { IfOk result (λ f. (f ≡ finished) × TellsEnd K.held (end_line f.end) notes.old notes.new) }
-    ensures failed { IfErr result (λ f. EndsUntold K.held K.failed_writes finished.end notes.old notes.new f.cause × (f.journal ≡ finished.journal) × (f.devices ≡ finished.devices)) }
+    ensures told { IfOk result (λ f. (f ≡ finished) × TellsEnd K.held (end_line f.journal.budget f.end) notes.old notes.new) }
+    ensures failed { IfErr result (λ f. EndsUntold K.held K.failed_writes finished.journal.budget finished.end notes.old notes.new f.cause × (f.journal ≡ finished.journal) × (f.devices ≡ finished.devices)) }
 {
-    match line_of_end(alloc, &finished.end) {
+    match line_of_end(alloc, finished.journal.budget(), &finished.end) {
         Ok(None) => Ok(finished),
         Ok(Some(line)) => match notes.put(line.as_str().as_bytes()) {
             Ok(()) => Ok(finished),
@@ -166,18 +169,33 @@ fn attempt<F: Folder, D: Device>(
     ensures caused { IfErr result (λ f. IsCaused D.held D.failed_writes (F.tree folder.old) (F.failed_reads folder.old) (F.failed_reads folder.new) (map string_bytes words.now) devices.items f.cause f.journal f.devices.items) }
     ensures folder { F.tree folder.new ≡ F.tree folder.old }
 {
-    let elf = match prepare(alloc, words, folder) {
-        Ok(elf) => elf,
+    let launch = match prepare(alloc, words, folder) {
+        Ok(launch) => launch,
         Err(cause) => return Err(untouched(alloc, cause, devices)),
     };
-    let core = match start(alloc, &elf, devices.as_slice().len()) {
+    let core = match core_of(alloc, &launch, devices.as_slice().len()) {
         Ok(core) => core,
         Err(fault) => return Err(untouched(alloc, cause_of(fault), devices)),
     };
-    match execute(alloc, core, devices) {
+    match execute(alloc, core, launch.budget, devices) {
         Ok(finished) => Ok(finished),
         Err(stopped) => Err(fault_of(stopped)),
     }
+}
+
+/// Starts what is to be started, with so many devices.
+fn core_of(alloc: Global, launch: &Launch, devices: usize) -> Result<Core, StartFault>
+    requires devices { devices ≤ 8 }
+    requires name { 0 < length launch.now.args.items }
+    ensures { Starts (program_of (image launch.now.elf) launch.now.args.items launch.now.env.items) devices result }
+{
+    start(
+        alloc,
+        &launch.elf,
+        launch.args.as_slice(),
+        launch.env.as_slice(),
+        devices,
+    )
 }
 
 /// The cause of a start that was refused.
@@ -185,6 +203,7 @@ fn cause_of(fault: StartFault) -> Cause
     ensures { result ≡ start_cause fault }
 {
     match fault {
+        StartFault::StackTooLong { size } => Cause::StackTooLong { size },
         StartFault::PagesFull { wanted } => Cause::PagesFull { wanted },
         StartFault::Memory => Cause::Memory,
     }
@@ -198,7 +217,7 @@ fn untouched<D: Device>(alloc: Global, cause: Cause, devices: Vec<D>) -> TopFaul
 {
     TopFault {
         cause,
-        journal: Journal::new(alloc, BUDGET),
+        journal: Journal::new(alloc, NO_RUN),
         devices,
     }
 }
@@ -225,16 +244,21 @@ fn fault_of<D: Device>(stopped: Stopped<D>) -> TopFault<D>
     }
 }
 
-/// Runs a core to its end.
-fn execute<D: Device>(alloc: Global, core: Core, devices: Vec<D>) -> Result<Finished<D>, Stopped<D>>
+/// Runs a core to its end, or until the budget is spent.
+fn execute<D: Device>(
+    alloc: Global,
+    core: Core,
+    budget: u32,
+    devices: Vec<D>,
+) -> Result<Finished<D>, Stopped<D>>
     requires devices { length devices.items ≡ length core.shared.outputs }
     requires quiet { map D.held devices.items ≡ sent (map D.held devices.items) core.shared.outputs }
-    ensures finished { IfOk result (λ f. CoreFinishes D.held core devices.items f.end f.status f.journal f.devices.items) }
-    ensures stopped { IfErr result (λ f. CoreStops D.held D.failed_writes core devices.items f.halt f.journal f.devices.items) }
+    ensures finished { IfOk result (λ f. CoreFinishes D.held core budget devices.items f.end f.status f.journal f.devices.items) }
+    ensures stopped { IfErr result (λ f. CoreStops D.held D.failed_writes core budget devices.items f.halt f.journal f.devices.items) }
 {
     let mut run = Run {
         core,
-        journal: Journal::new(alloc, BUDGET),
+        journal: Journal::new(alloc, budget),
         devices,
     };
     let ended = run_to_end(&mut run);

@@ -15,7 +15,7 @@ use Rattle.guest_core.specs.Pending.{first_new, first_of, is_empty}
 use Rattle.guest_core.specs.Rows.{Row, Execute, ClearFlag, note_or, take_or, row_at, row_of, flagged_row, done, executed, after, instruction_of, stepped, ticked}
 use Rattle.guest_core.specs.Event.{event_after, happens, is_enabled, run}
 use Rattle.guest_core.specs.Kept.{Keeps}
-use Rattle.guest_core.specs.Ahead.{IsReady, IsPlain, GoesOn}
+use Rattle.guest_core.specs.Ahead.{IsReady}
 use Rattle.guest_core.proofs.Due.{row_of_ticked}
 use Rattle.guest_core.proofs.KeptFacts.{step_keeps}
 

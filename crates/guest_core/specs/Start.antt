@@ -1,50 +1,59 @@
--- The state in which a file starts.
--- Source: System V ABI, "Program Loading". That registers start as 0, and the bound of pages, are the project's own.
-use Rattle.std.specs.Prelude.{◌≡◌, ◌<◌, ◌≤◌, ℕ, ◌+◌, ◌-◌, ◌*◌, ◌/◌, ◌%◌, ◌==◌, if◌then◌else◌, true, false, List, [], replicate, None, Result, Ok, Err}
-use Rattle.elf_file.specs.Reading.{Image, SegmentImage}
+-- The state in which a program starts.
+-- Source: System V ABI, "Program Loading" and "Process Initialization"; RISC-V ELF psABI. That the other registers start as 0,
+-- the trampoline, through which handlers will return, and the bound of pages are the project's own.
+use Rattle.std.specs.Prelude.{◌≡◌, ◌<◌, ◌≤◌, ℕ, ◌+◌, ◌-◌, ◌^◌, ◌++◌, min, true, false, List, [], replicate, slice_set, None, Result, Ok, Err}
+use Rattle.byteorder.specs.Endian.{little_bytes}
+use Rattle.elf_file.specs.Reading.{Image}
+use Rattle.segment_load.specs.Loading.{loaded}
+use Rattle.segment_load.specs.Wanted.{pages_of}
+use Rattle.start_stack.specs.Placing.{with_stack, stack_pointer, stack_size, told_size, most_bytes}
 use Rattle.guest_core.specs.declared.places.Place.TheVariants.{Loop}
 use Rattle.isa_exec.specs.declared.registers.Regs.{Regs}
 use Rattle.guest_core.specs.declared.starting.StartFault.{StartFault}
-use Rattle.guest_core.specs.declared.starting.StartFault.TheVariants.{PagesFull, Memory}
+use Rattle.guest_core.specs.declared.starting.StartFault.TheVariants.{StackTooLong, PagesFull, Memory}
 use Rattle.guest_pages.specs.declared.rights.Rights.{Rights}
 use Rattle.guest_pages.specs.Operations.{placed, protected, written}
 use Rattle.guest_pages.specs.Ranges.{Range}
 use Rattle.word_memory.specs.Reservations.{joined}
 use Rattle.guest_core.specs.Machine.{Shared, Machine, first_thread}
 
--- how many pages of 4096 bytes have a byte of the range
-abbrev pub page_count : ℕ → ℕ → ℕ
-page_count at size = if size == 0 then 0 else (at + size - 1) / 4096 - at / 4096 + 1
+-- a program: its file, its arguments, the first of which is its name, and its environment
+pub record Program : Type 0 where
+  pub image : Image
+  pub args : List (List ℕ)
+  pub env : List (List ℕ)
 
--- the most pages that a program has
-abbrev pub most_pages : ℕ
-most_pages = 65536
+-- ---- memory
 
--- the pages that a file wants
-abbrev pub wanted_pages : Image → ℕ
-wanted_pages image = page_count image.segment.at image.segment.size
-
-abbrev pub being_loaded : Rights
-being_loaded = record { read = true; write = true; execute = false }
+abbrev pub being_written : Rights
+being_written = record { read = true; write = true; execute = false }
 
 abbrev pub runnable : Rights
 runnable = record { read = true; write = false; execute = true }
 
--- the first address of the pages that have a byte of the range
-abbrev pub first_page : ℕ → ℕ
-first_page at = at - at % 4096
+-- the page of the trampoline, and its two instructions: `addi a7, x0, 139` and `ecall`
+abbrev pub trampoline : ℕ
+trampoline = 0x3FFFFFF000
 
--- the pages of the segment: zeros, with the file's bytes at their addresses, readable and executable
-unfoldable pub loaded : SegmentImage → List Range
-loaded segment =
-    let start = first_page segment.at in
-    let size = 4096 * page_count segment.at segment.size in
-    protected start size runnable (written segment.at segment.file_bytes (placed start size being_loaded []))
+abbrev pub trampoline_bytes : List ℕ
+trampoline_bytes = little_bytes 4 0x08B00893 ++ little_bytes 4 0x00000073
+
+-- its page can be read and executed, and holds zeros behind them
+unfoldable pub with_trampoline : List Range → List Range
+with_trampoline memory =
+    protected trampoline 4096 runnable (written trampoline trampoline_bytes (placed trampoline 4096 being_written memory))
+
+-- the segments, the trampoline and the first stack
+unfoldable pub first_memory : Program → List Range
+first_memory program =
+    with_stack program.image program.args program.env (with_trampoline (loaded program.image.segments))
+
+-- ---- the state
 
 -- what the system has at first
-abbrev pub first_shared : Image → ℕ → Shared
-first_shared image devices = record {
-  memory = loaded image.segment;
+abbrev pub first_shared : Program → ℕ → Shared
+first_shared program devices = record {
+  memory = first_memory program;
   held = joined first_thread [];
   outputs = replicate devices [];
   pending = [];
@@ -52,21 +61,52 @@ first_shared image devices = record {
   clock = 0;
 }
 
-abbrev pub first_regs : Image → Regs
-first_regs image = record { pc = image.entry; x = replicate 32 0 }
+-- pc stands at the entry, and sp (x2) at the number of arguments
+abbrev pub first_regs : Program → Regs
+first_regs program = record {
+  pc = program.image.entry;
+  x = slice_set (replicate 32 0) 2 (stack_pointer program.args program.env);
+}
 
-unfoldable pub started : Image → ℕ → Machine
-started image devices = record {
-  shared = first_shared image devices;
-  regs = first_regs image;
+unfoldable pub started : Program → ℕ → Machine
+started program devices = record {
+  shared = first_shared program devices;
+  regs = first_regs program;
   place = Loop;
   flag = false;
   noted = [];
   end = None;
 }
 
--- a start is made where the pages suffice, and refused with their number where they don't. Want of memory is free
-abbrev pub Starts : Image → ℕ → Result Machine StartFault → Type 0
-Starts image devices (Ok machine) = (machine ≡ started image devices) × (wanted_pages image ≤ most_pages)
-Starts image devices (Err (PagesFull wanted)) = (wanted ≡ wanted_pages image) × (most_pages < wanted)
-Starts image devices (Err Memory) = Unit {0}
+-- ---- refusals
+
+-- the most pages that a program has
+abbrev pub most_pages : ℕ
+most_pages = 65536
+
+-- the pages that a program wants: those of its segments, 2,048 of the first stack, and the trampoline's
+unfoldable pub wanted_pages : Image → ℕ
+wanted_pages image = pages_of image.segments + 2049
+
+-- their number as it is told
+abbrev pub told_pages : Image → ℕ
+told_pages image = min (wanted_pages image) (2 ^ 64 - 1)
+
+-- the stack and the pages suffice
+pub record FitsIn (program : Program) : Type 0 where
+  pub stack : stack_size program.args program.env ≤ most_bytes
+  pub pages : wanted_pages program.image ≤ most_pages
+
+-- a start is made where the stack and the pages suffice, and refused with the size of the first or else the number of the
+-- second where they don't. Want of memory is free
+abbrev pub Starts : Program → ℕ → Result Machine StartFault → Type 0
+Starts program devices (Ok machine) = (machine ≡ started program devices) × FitsIn program
+Starts program devices (Err (StackTooLong size)) =
+    (size ≡ told_size program.args program.env) × (most_bytes < stack_size program.args program.env)
+Starts program devices (Err (PagesFull wanted)) =
+    (wanted ≡ told_pages program.image) × (most_pages < wanted_pages program.image) × (stack_size program.args program.env ≤ most_bytes)
+Starts program devices (Err Memory) = Unit {0}
+
+-- a program of a file that was read, with its arguments and environment
+abbrev pub program_of : Image → List (List ℕ) → List (List ℕ) → Program
+program_of image args env = record { image = image; args = args; env = env }

@@ -8,9 +8,9 @@ ghost use Rattle.guest_core.specs.Outcomes.{call_of};
 use crate::ends::End;
 use crate::machine::FIRST_THREAD;
 use crate::state::Host;
-use elf_file::Bytes;
 use guest_pages::{Pages, Rights};
 use isa_exec::Regs;
+use le_fields::Bytes;
 use std::alloc::{AllocError, Global};
 
 /// The number of write(2).

@@ -1,16 +1,17 @@
 //! One instruction, found at pc, made, and its effect carried out.
 
-ghost use Rattle.std.specs.Prelude.{◌≡◌, ◌⊎◌, ◌+◌, ◌*◌, ◌<◌, ◌^◌, ℕ, List, IfSome, IfOk, IfErr, OnOk, OnErr, true, false, Ok, Err, MatchResult};
+ghost use Rattle.std.specs.Prelude.{◌≡◌, ◌⊎◌, ◌+◌, ◌*◌, ◌<◌, ◌^◌, ℕ, List, IfSome, IfOk, IfErr, OnOk, OnErr, true, false, None, Ok, Err, MatchResult};
 ghost use Rattle.isa_compressed.specs.Expansion.{expansion};
 ghost use Rattle.isa_decode.specs.Listing.{decoding};
 ghost use Rattle.isa_decode.specs.Ranges.{InRange};
 ghost use Rattle.guest_core.specs.Instruction.{Found, Outcome, of_found, executed, is_or_illegal, combines, reserves, stores, stores_conditionally, breakpoint as breakpoint_at, fault_of_word as word_fault_of, found, half_at as half_word_at, illegal as illegal_at, instruction, load_size, loaded, loads, page_fault as page_fault_of, store_size};
 ghost use Rattle.isa_exec.specs.Execution.{put};
-ghost use Rattle.byteorder.specs.Endian.{little_number};
-ghost use Rattle.guest_pages.specs.Faults.{answer_or, first_fault, readable};
-ghost use Rattle.guest_pages.specs.Operations.{bytes_at};
+ghost use Rattle.byteorder.specs.Endian.{little_bytes, little_number};
+ghost use Rattle.guest_pages.specs.Faults.{answer_or, first_fault, readable, writable};
+ghost use Rattle.guest_pages.specs.Operations.{bytes_at, written};
 ghost use Rattle.guest_pages.specs.Sizes.{size_of as bytes_of};
 ghost use Rattle.word_memory.specs.declared.reservations.Held.{Held};
+ghost use Rattle.word_memory.specs.Reservations.{stored_to};
 ghost use Rattle.guest_core.specs.Ahead.{IsPlain};
 ghost use Rattle.guest_core.specs.Code.{instruction_of_code};
 ghost use Rattle.guest_core.specs.Effects.{carried, HasRegister};
@@ -22,7 +23,7 @@ use crate::signal::SigNo;
 use guest_pages::{PageFault, Pages};
 use isa_compressed::expand;
 use isa_decode::{AmoOp, Instr, LoadKind, Width, decode};
-use isa_exec::{Effect, Regs, address, exec, exec_alone};
+use isa_exec::{Effect, Regs, address, exec, exec_alone, exec_operation};
 use word_memory::{Reservations, WordFault, amo, load_reserved, store_conditional};
 
 /// What an instruction came to.
@@ -521,9 +522,9 @@ pub(crate) fn make_plain(
     }
 }
 
-/// The same of an instruction of `size` bytes.
+/// The same of an instruction of `size` bytes. The forms that programs use most are looked for first, a few at a time.
 #[inline(always)]
-#[tactic(auto, using(crate::proofs::EffectFacts::alone_is_row, crate::proofs::EffectFacts::else_stays), unfolding(crate::specs::Instruction::loads, crate::specs::Instruction::executed))]
+#[tactic(auto, using(crate::proofs::EffectFacts::operation_is_row), unfolding(crate::specs::Instruction::loads, crate::specs::Instruction::executed))]
 fn make_known(
     thread: u32,
     instr: &Instr,
@@ -544,10 +545,99 @@ fn make_known(
             return true;
         }
     }
+    if exec_operation(instr, size, regs) {
+        return true;
+    }
+    make_further(thread, instr, size, regs, memory, held)
+}
+
+/// The same, where stores go first, and then those on registers alone.
+#[inline(never)]
+#[tactic(auto, using(crate::proofs::EffectFacts::alone_is_row, crate::proofs::EffectFacts::else_stays), unfolding(crate::specs::Instruction::stores, crate::specs::Instruction::executed))]
+fn make_further(
+    thread: u32,
+    instr: &Instr,
+    size: u64,
+    regs: &mut Regs,
+    memory: &mut Pages,
+    held: &mut Reservations,
+) -> bool
+    requires range { InRange instr.now }
+    requires size { (size ≡ 2) ⊎ (size ≡ 4) }
+    ensures made { result ≡ true → executed thread instr.now size regs.old memory.old held.old ≡ Outcome.Runs regs.new memory.new held.new }
+    ensures stops { result ≡ false → IsPlain (executed thread instr.now size regs.old memory.old held.old) → ⊥ }
+    ensures stays { result ≡ false → (regs.new ≡ regs.old) × (memory.new ≡ memory.old) × (held.new ≡ held.old) }
+{
+    if let Instr::Store {
+        width,
+        rs1,
+        rs2,
+        imm,
+    } = *instr
+    {
+        let at = address(regs, rs1, imm);
+        let value = regs.register(rs2);
+        if store_near(thread, width, at, value, memory, held) {
+            let next = regs.behind(size);
+            regs.go_on_at(next);
+            return true;
+        }
+    }
     if exec_alone(instr, size, regs) {
         return true;
     }
     make_other(thread, instr, size, regs, memory, held)
+}
+
+/// Stores a number whose bytes lie in one page and can be written, and tells whether they do; else all stays.
+#[inline(always)]
+fn store_near(
+    thread: u32,
+    width: Width,
+    at: u64,
+    value: u64,
+    memory: &mut Pages,
+    held: &mut Reservations,
+) -> bool
+    ensures good { result ≡ true → first_fault writable memory.old at (store_size width) ≡ None }
+    ensures memory { result ≡ true → memory.new ≡ written at (little_bytes (store_size width) value) memory.old }
+    ensures held { result ≡ true → held.new ≡ stored_to thread at (store_size width) held.old }
+    ensures stays { result ≡ false → (memory.new ≡ memory.old) × (held.new ≡ held.old) }
+{
+    if !put_near(width, at, value, memory) {
+        return false;
+    }
+    held.stored(thread, at, width_of_store(width).size() as u64);
+    true
+}
+
+/// The same without the reservations. The width that programs use most goes first, so that its bytes are moved at once.
+#[inline(always)]
+fn put_near(width: Width, at: u64, value: u64, memory: &mut Pages) -> bool
+    ensures good { result ≡ true → first_fault writable memory.old at (store_size width) ≡ None }
+    ensures memory { result ≡ true → memory.new ≡ written at (little_bytes (store_size width) value) memory.old }
+    ensures stays { result ≡ false → memory.new ≡ memory.old }
+{
+    if let Width::Eight = width {
+        return memory.store_near(at, guest_pages::Width::Eight, value);
+    }
+    if let Width::Four = width {
+        return memory.store_near(at, guest_pages::Width::Four, value);
+    }
+    put_short_near(width, at, value, memory)
+}
+
+/// The same of any width.
+#[inline(never)]
+fn put_short_near(width: Width, at: u64, value: u64, memory: &mut Pages) -> bool
+    ensures good { result ≡ true → first_fault writable memory.old at (store_size width) ≡ None }
+    ensures memory { result ≡ true → memory.new ≡ written at (little_bytes (store_size width) value) memory.old }
+    ensures stays { result ≡ false → memory.new ≡ memory.old }
+{
+    if let Width::One = width {
+        return memory.store_near(at, guest_pages::Width::One, value);
+    }
+    memory.store_near(at, width_of_store(width), value)
 }
 
 /// What a register holds of a load whose bytes lie in one page and can be read. The kinds that programs use most go first,
@@ -586,6 +676,25 @@ fn load_half_near(kind: LoadKind, at: u64, memory: &Pages) -> Option<u64>
     if let LoadKind::Lh = kind {
         return match memory.load_near(at, guest_pages::Width::Two) {
             Some(value) => Some(signed_half(value)),
+            None => None,
+        };
+    }
+    load_word_near(kind, at, memory)
+}
+
+/// The same of the other kinds, of which two are left.
+#[inline(never)]
+fn load_word_near(kind: LoadKind, at: u64, memory: &Pages) -> Option<u64>
+    ensures { IfSome result (λ value. answer_or
+        (first_fault readable memory.now at (load_size kind))
+        (loaded kind (little_number (load_size kind) (bytes_at memory.now at (load_size kind)))) ≡ Ok value) }
+{
+    if let LoadKind::Lwu = kind {
+        return memory.load_near(at, guest_pages::Width::Four);
+    }
+    if let LoadKind::Lb = kind {
+        return match memory.load_near(at, guest_pages::Width::One) {
+            Some(value) => Some(signed_byte(value)),
             None => None,
         };
     }

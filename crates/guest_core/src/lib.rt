@@ -27,13 +27,18 @@
 //!
 //! # What the layer above knows
 //!
+//! `start` gives the state in which a program starts (`specs/Start.antt`), or refuses it exactly where its stack's texts or
+//! its pages are too many.
+//!
 //! `Core::event` makes exactly `event_after`, refuses exactly what isn't enabled, and leaves the state after a
 //! refusal. It takes constant time, but for a write by the bytes that it writes, and memory only there and never
 //! elsewhere (`TakesNoMemory`). Outputs only grow, and only that of the device that `Core::lengthens` names.
+//! `Core::run_on` makes many steps that are an instruction's and nothing else, which are a run of as many events.
 //!
 //! # Sources
 //!
-//! The RISC-V unprivileged manual for instructions, signal(7), sigaction(2), write(2) and exit_group(2). The window
+//! The RISC-V unprivileged manual for instructions, the System V ABI for the start, signal(7), sigaction(2), write(2) and
+//! exit_group(2). The window
 //! between check and host is after the safe system calls of QEMU's linux-user; places, flag, noted signals and virtual
 //! time are the project's own.
 #![tactic(auto)]

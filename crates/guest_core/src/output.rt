@@ -1,6 +1,6 @@
 ghost use Rattle.std.specs.Prelude.{◌≡◌, ◌<◌, ◌++◌, [], length, replicate, slice_set, slice_index_or, IfOk, OnOk, OnErr};
 
-use elf_file::Bytes;
+use le_fields::Bytes;
 use std::alloc::{AllocError, Global};
 use std::marker::Model;
 

@@ -1,7 +1,8 @@
-ghost use Rattle.std.specs.Prelude.{◌≡◌, ◌≤◌, ◌+◌, IfOk};
-ghost use Rattle.elf_file.specs.Reading.{image, segment_image};
-ghost use Rattle.guest_core.specs.Start.{started, loaded, page_count, Starts};
+ghost use Rattle.std.specs.Prelude.{◌≡◌, ◌≤◌, ◌<◌, length, IfOk, OnOk};
+ghost use Rattle.elf_file.specs.Reading.{image};
+ghost use Rattle.guest_core.specs.Start.{first_memory, program_of, started, with_trampoline, Starts};
 ghost use Rattle.guest_core.specs.State.{machine};
+ghost use Rattle.start_stack.specs.Placing.{stack_pointer};
 
 use crate::decoder::Decoder;
 use crate::machine::{Core, FIRST_THREAD};
@@ -9,19 +10,31 @@ use crate::output::Outputs;
 use crate::places::Place;
 use crate::queue::Pending;
 use crate::state::{Host, State};
-use elf_file::{Elf, Segment};
+use elf_file::Elf;
+use file_tree::Text;
 use guest_pages::{Pages, Rights};
 use isa_exec::Regs;
+use segment_load::{load, wanted_pages};
+use start_stack::{place, size_of};
 use std::alloc::{AllocError, Global};
 use word_memory::Reservations;
-
-/// The bytes of a page.
-const PAGE: u64 = 4096;
 
 /// The most pages that a program has.
 const MOST_PAGES: u64 = 65536;
 
-const BEING_LOADED: Rights = Rights {
+/// The pages of the first stack and of the trampoline.
+const OTHER_PAGES: u64 = 2049;
+
+/// The most bytes of the texts and words of the first stack.
+const MOST_STACK: u64 = 131_072;
+
+/// The byte address of the trampoline's page.
+const TRAMPOLINE: u64 = 0x3F_FFFF_F000;
+
+/// `addi a7, x0, 139` and `ecall`, the lowest byte first.
+const TRAMPOLINE_BYTES: [u8; 8] = [0x93, 0x08, 0xB0, 0x08, 0x73, 0, 0, 0];
+
+const BEING_WRITTEN: Rights = Rights {
     read: true,
     write: true,
     execute: false,
@@ -36,39 +49,62 @@ const RUNNABLE: Rights = Rights {
 /// Why no start was made.
 #[derive(Clone, Copy, Debug, PartialEq, Eq)]
 pub enum StartFault {
-    /// The file wants this many pages, which are more than 65,536.
+    /// The texts and the words of the first stack take this many bytes, which are more than 131,072.
+    StackTooLong { size: u64 },
+    /// The program wants this many pages, which are more than 65,536.
     PagesFull { wanted: u64 },
     /// Want of memory.
     Memory,
 }
 
-/// The state in which a file starts, with that many devices. It costs by the size of the file's segment.
+/// The state in which a program starts: its file, its arguments, of which the first is its name, its environment, and the
+/// number of its devices. It costs by the pages and bytes of the file's segments, and by those of the first stack.
 ///
-/// References: System V ABI, "Program Loading".
-#[tactic(auto, using(crate::proofs::StartFacts::start_keeps), unfolding(crate::specs::Start::started))]
-pub fn start(alloc: Global, elf: &Elf, devices: usize) -> Result<Core, StartFault>
-    requires { devices ≤ 8 }
-    ensures { Starts (image elf.now) devices result }
+/// References: System V ABI, "Program Loading" and "Process Initialization".
+#[tactic(auto, using(crate::proofs::StartFacts::start_keeps), unfolding(crate::specs::Start::wanted_pages))]
+pub fn start(
+    alloc: Global,
+    elf: &Elf,
+    args: &[Text],
+    env: &[Text],
+    devices: usize,
+) -> Result<Core, StartFault>
+    requires devices { devices ≤ 8 }
+    requires name { 0 < length args.now }
+    ensures { Starts (program_of (image elf.now) args.now env.now) devices result }
 {
-    let wanted = pages(elf.segment.at, elf.segment.size);
-    if MOST_PAGES < wanted {
+    let size = size_of(args, env);
+    if size > MOST_STACK {
+        return Err(StartFault::StackTooLong { size });
+    }
+    let wanted = wanted_pages(elf).saturating_add(OTHER_PAGES);
+    if wanted > MOST_PAGES {
         return Err(StartFault::PagesFull { wanted });
     }
-    match state_of(alloc, elf, devices) {
+    match state_of(alloc, elf, args, env, devices) {
         Ok(state) => Ok(Core::from_state(state)),
         Err(_) => Err(StartFault::Memory),
     }
 }
 
 #[tactic(auto, unfolding(crate::specs::Start::started, word_memory::specs::Reservations::is_there))]
-fn state_of(alloc: Global, elf: &Elf, devices: usize) -> Result<State, AllocError>
-    ensures { IfOk result (λ state. machine state ≡ started (image elf.now) devices) }
+fn state_of(
+    alloc: Global,
+    elf: &Elf,
+    args: &[Text],
+    env: &[Text],
+    devices: usize,
+) -> Result<State, AllocError>
+    requires { 0 < length args.now }
+    ensures { IfOk result (λ state. machine state ≡ started (program_of (image elf.now) args.now env.now) devices) }
 {
-    let memory = load(alloc, &elf.segment)?;
+    let (memory, pointer) = memory_of(alloc, elf, args, env)?;
     let mut held = Reservations::new(alloc);
     held.add_thread(FIRST_THREAD)?;
     let outputs = Outputs::new(alloc, devices)?;
     let decoder = Decoder::new(alloc)?;
+    let mut x = [0; 32];
+    x[2] = pointer;
     Ok(State {
         host: Host {
             memory,
@@ -78,47 +114,46 @@ fn state_of(alloc: Global, elf: &Elf, devices: usize) -> Result<State, AllocErro
             clock: 0,
         },
         decoder,
-        regs: Regs {
-            pc: elf.entry,
-            x: [0; 32],
-        },
+        regs: Regs { pc: elf.entry, x },
         place: Place::Loop,
         flag: false,
         end: None,
     })
 }
 
-/// How many pages have a byte of the range.
-fn pages(at: u64, size: u64) -> u64
-    requires { at + size ≤ 0x3F00000000 }
-    ensures { result ≡ page_count at size }
+/// The first memory, and the stack pointer.
+#[tactic(auto, unfolding(crate::specs::Start::first_memory))]
+fn memory_of(
+    alloc: Global,
+    elf: &Elf,
+    args: &[Text],
+    env: &[Text],
+) -> Result<(Pages, u64), AllocError>
+    requires { 0 < length args.now }
+    ensures memory { IfOk result (λ made. made.0 ≡ first_memory (program_of (image elf.now) args.now env.now)) }
+    ensures pointer { IfOk result (λ made. made.1 ≡ stack_pointer args.now env.now) }
 {
-    if size == 0 {
-        return 0;
+    let mut memory = load(alloc, elf)?;
+    add_trampoline(alloc, &mut memory)?;
+    match place(alloc, &mut memory, elf, args, env) {
+        Ok(pointer) => Ok((memory, pointer)),
+        Err(_) => Err(AllocError),
     }
-    (at + size - 1) / PAGE - at / PAGE + 1
 }
 
-/// The pages of the segment: zeros, with the file's bytes at their addresses, readable and executable. It takes time and
-/// memory in the number of pages.
-#[tactic(auto, unfolding(crate::specs::Start::loaded))]
-fn load(alloc: Global, segment: &Segment) -> Result<Pages, AllocError>
-    ensures { IfOk result (λ memory. memory ≡ loaded (segment_image segment.now)) }
+/// Maps the trampoline's page, and fills it.
+#[tactic(auto, unfolding(crate::specs::Start::with_trampoline))]
+fn add_trampoline(alloc: Global, memory: &mut Pages) -> Result<(), AllocError>
+    ensures { OnOk result (memory.new ≡ with_trampoline memory.old) }
 {
-    let mut memory = Pages::new();
-    let start = segment.at - segment.at % PAGE;
-    let count = pages(segment.at, segment.size);
-    if memory.map(alloc, start, count, BEING_LOADED).is_err() {
+    if memory.map(alloc, TRAMPOLINE, 1, BEING_WRITTEN).is_err() {
         return Err(AllocError);
     }
-    if memory
-        .copy_in(segment.at, segment.file_bytes.as_slice())
-        .is_err()
-    {
+    if memory.copy_in(TRAMPOLINE, &TRAMPOLINE_BYTES).is_err() {
         return Err(AllocError);
     }
-    if memory.protect(alloc, start, count, RUNNABLE).is_err() {
+    if memory.protect(alloc, TRAMPOLINE, 1, RUNNABLE).is_err() {
         return Err(AllocError);
     }
-    Ok(memory)
+    Ok(())
 }

@@ -1,5 +1,6 @@
 use super::*;
 use elf_file::{Elf, read};
+use file_tree::Text;
 use std::alloc::Global;
 use std::test::Fail;
 
@@ -20,7 +21,8 @@ const STEP: Event = Event::Step(FIRST_THREAD);
 
 fn started(alloc: Global) -> Result<Core, Fail> {
     let elf: Elf = read(alloc, &EXITS)?;
-    Ok(start(alloc, &elf, 3)?)
+    let name = [Text::new(alloc, "a")?];
+    Ok(start(alloc, &elf, &name, &[], 3)?)
 }
 
 #[test]

@@ -173,10 +173,15 @@ fn numbers_by_one_look_up(rt: HostRuntime) -> Result<(), Fail> {
         Some(0x1122_3344_5566_7788)
     );
     assert_eq!(rt; pages.load_near(0x1FFC, Width::Four), Some(0x1122_3344));
+    assert!(rt; pages.store_near(0x1FFE, Width::Two, 0x99AA));
+    assert_eq!(rt; pages.load_near(0x1FFC, Width::Four), Some(0x99AA_3344));
     // in two pages, not mapped, and without the right
+    assert!(rt; !pages.store_near(0x1FFF, Width::Two, 0));
+    assert!(rt; !pages.store_near(0x3000, Width::One, 0));
     assert_eq!(rt; pages.load_near(0x1FFC, Width::Eight), None);
     assert_eq!(rt; pages.load_near(0x3000, Width::One), None);
     pages.protect(rt.alloc(), 0x1000, 1, CODE)?;
     assert_eq!(rt; pages.load_near(0x1FF8, Width::Eight), None);
+    assert!(rt; !pages.store_near(0x1FF8, Width::Eight, 0));
     Ok(())
 }

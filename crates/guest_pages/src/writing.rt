@@ -9,7 +9,7 @@ ghost use Rattle.guest_pages.specs.Writes.{with_bytes};
 use crate::page::Page;
 
 /// Bytes go into an array from a place on.
-#[inline]
+#[inline(always)]
 fn put_in(stored: &mut [u8; 4096], place: usize, bytes: &[u8])
     requires { place + length bytes.now ≤ 4096 }
     ensures { (k : ℕ) → slice_index stored.new k
@@ -19,7 +19,7 @@ fn put_in(stored: &mut [u8; 4096], place: usize, bytes: &[u8])
 }
 
 /// Bytes go into a page from a place on, if it can be written; whether it can.
-#[inline]
+#[inline(always)]
 fn write_in(page: &mut Page, place: usize, bytes: &[u8]) -> bool
     requires { place + length bytes.now ≤ 4096 }
     ensures answer { result ≡ is_some (held_in writable page.old) }
@@ -41,7 +41,7 @@ fn write_in(page: &mut Page, place: usize, bytes: &[u8]) -> bool
 }
 
 /// Bytes go into the page of an address, if it can be written; whether it can.
-#[inline]
+#[inline(always)]
 fn write_row(tables: &mut Vec<Vec<Page>>, at: u64, bytes: &[u8]) -> bool
     requires { at % 4096 + length bytes.now ≤ 4096 }
     ensures answer { result ≡ is_some (held_in writable (page_at tables.old.items (at / 4096))) }
@@ -63,7 +63,7 @@ fn write_row(tables: &mut Vec<Vec<Page>>, at: u64, bytes: &[u8]) -> bool
 }
 
 /// The same where there may be no tables.
-#[inline]
+#[inline(always)]
 fn write_at(tables: &mut Option<Vec<Vec<Page>>>, at: u64, bytes: &[u8]) -> bool
     requires { at % 4096 + length bytes.now ≤ 4096 }
     ensures answer { result ≡ is_some (held_in writable (page_at (rows_of tables.old) (at / 4096))) }
@@ -78,13 +78,14 @@ fn write_at(tables: &mut Option<Vec<Vec<Page>>>, at: u64, bytes: &[u8]) -> bool
 }
 
 /// Bytes go into memory from an address on, if they lie in one page and it can be written; whether they do.
-#[inline]
+#[inline(always)]
 pub(crate) fn write_near(tables: &mut Option<Vec<Vec<Page>>>, at: u64, bytes: &[u8]) -> bool
     requires { length (rows_of tables.old) ≤ 8192 }
     ensures good { result ≡ true → first_fault writable (held (rows_of tables.old)) at (length bytes.now) ≡ None }
     ensures done { result ≡ true → (a : ℕ) → cells (rows_of tables.new) a ≡ with_bytes at bytes.now (cells (rows_of tables.old)) a }
     ensures undone { result ≡ false → (a : ℕ) → cells (rows_of tables.new) a ≡ cells (rows_of tables.old) a }
     ensures size { length (rows_of tables.new) ≡ length (rows_of tables.old) }
+    ensures near { at % 4096 + length bytes.now ≤ 4096 → result ≡ is_some (held_in writable (page_at (rows_of tables.old) (at / 4096))) }
 {
     let room = 4096 - (at % 4096) as usize;
     if room < bytes.len() {

@@ -33,6 +33,24 @@ effect_of (instr.Fence code rd rs1 imm) regs = effect.Next
 effect_of instr.Ecall regs = effect.Call
 effect_of instr.Ebreak regs = effect.Break
 
+-- the instruction is an operation on registers, or on a register and an immediate
+abbrev pub is_operation : Instr → Bool
+is_operation (instr.Lui rd imm) = false
+is_operation (instr.Auipc rd imm) = false
+is_operation (instr.Jal rd imm) = false
+is_operation (instr.Jalr rd rs1 imm) = false
+is_operation (instr.Branch cmp rs1 rs2 imm) = false
+is_operation (instr.Load kind rd rs1 imm) = false
+is_operation (instr.Store width rs1 rs2 imm) = false
+is_operation (instr.OpImm op rd rs1 imm) = true
+is_operation (instr.Op op rd rs1 rs2) = true
+is_operation (instr.LoadReserved wide order rd rs1) = false
+is_operation (instr.StoreConditional wide order rd rs1 rs2) = false
+is_operation (instr.Amo op wide order rd rs1 rs2) = false
+is_operation (instr.Fence code rd rs1 imm) = false
+is_operation instr.Ecall = false
+is_operation instr.Ebreak = false
+
 -- the instruction asks for nothing but registers
 abbrev pub is_alone : Instr → Bool
 is_alone (instr.Lui rd imm) = true

@@ -1,6 +1,6 @@
-ghost use Rattle.std.specs.Prelude.{◌≡◌, ◌<◌, ◌≤◌, ◌⊎◌, true};
+ghost use Rattle.std.specs.Prelude.{◌≡◌, ◌<◌, ◌≤◌, ◌⊎◌, true, false};
 ghost use Rattle.isa_decode.specs.Ranges.{InRange};
-ghost use Rattle.isa_exec.specs.Execution.{effect_of, even, is_alone, linked, put, regs_after};
+ghost use Rattle.isa_exec.specs.Execution.{effect_of, even, is_alone, is_operation, linked, put, regs_after};
 ghost use Rattle.isa_exec.specs.Execution.{address as address_of};
 
 use crate::arithmetic::{calculate, holds, register_form};
@@ -114,13 +114,31 @@ pub fn exec_alone(instr: &Instr, size: u64, regs: &mut Regs) -> bool
     ensures alone { result ≡ is_alone instr.now }
     ensures regs { regs.new ≡ regs_after instr.now size regs.old }
 {
+    if exec_operation(instr, size, regs) {
+        return true;
+    }
+    exec_jump(instr, size, regs)
+}
+
+/// Makes the instruction, of `size` bytes (2 or 4), where it is an operation on registers or on a register and an immediate,
+/// and tells whether it is. Else the registers stay. It takes no memory, and constant time.
+///
+/// References: the RISC-V unprivileged manual, "Integer Computational Instructions", and "M".
+#[inline(always)]
+pub fn exec_operation(instr: &Instr, size: u64, regs: &mut Regs) -> bool
+    requires range { InRange instr.now }
+    requires size { (size ≡ 2) ⊎ (size ≡ 4) }
+    ensures operation { result ≡ is_operation instr.now }
+    ensures made { result ≡ true → regs.new ≡ regs_after instr.now size regs.old }
+    ensures stays { result ≡ false → regs.new ≡ regs.old }
+{
     if let Instr::OpImm { op, rd, rs1, imm } = *instr {
         return operate_on_immediate(op, rd, rs1, imm, size, regs);
     }
     if let Instr::Op { op, rd, rs1, rs2 } = *instr {
         return operate(op, rd, rs1, rs2, size, regs);
     }
-    exec_jump(instr, size, regs)
+    false
 }
 
 /// The same, where branches and jumps go first.

@@ -827,3 +827,24 @@ fn instructions_on_registers_alone(rt: HostRuntime) {
         assert_eq!(rt; regs.x[10], value, "{instr:?}");
     }
 }
+
+#[test]
+fn operations_are_told_from_other_instructions(rt: HostRuntime) {
+    let table = [
+        (by_register(AluOp::Add, 10, 10, 11), true, 0x1_0004, 10),
+        (by_immediate(ImmOp::Slli, 10, 10, 4), true, 0x1_0004, 112),
+        (lui(10, 4096), false, 0x1_0000, 7),
+        (Instr::Ebreak, false, 0x1_0000, 7),
+    ];
+    for (instr, operation, next, value) in table {
+        assert!(rt; is_in_range(&instr), "{instr:?}");
+        let mut regs = holding(0x1_0000, 7, 3);
+        assert_eq!(rt;
+            exec_operation(&instr, 4, &mut regs),
+            operation,
+            "{instr:?}"
+        );
+        assert_eq!(rt; regs.pc, next, "pc of {instr:?}");
+        assert_eq!(rt; regs.x[10], value, "{instr:?}");
+    }
+}

@@ -2,11 +2,10 @@
 -- between two instructions.
 -- Source: signal(7); the form is the project's own.
 use Rattle.std.specs.Prelude.{ℕ, List, Option, None}
-use Rattle.elf_file.specs.Reading.{Image}
 use Rattle.guest_core.specs.declared.ends.End.{End}
 use Rattle.isa_exec.specs.declared.registers.Regs.{Regs}
 use Rattle.guest_core.specs.Machine.{Shared}
-use Rattle.guest_core.specs.Start.{first_shared, first_regs}
+use Rattle.guest_core.specs.Start.{Program, first_shared, first_regs}
 
 -- what the system has, and the registers of the one thread, which runs until the end
 pub record ProcessState : Type 0 where
@@ -14,11 +13,11 @@ pub record ProcessState : Type 0 where
   pub regs : Regs
   pub end : Option End
 
--- a process that starts a file
-unfoldable pub begun : Image → ℕ → ProcessState
-begun image devices = record {
-  shared = first_shared image devices;
-  regs = first_regs image;
+-- a process that starts a program
+unfoldable pub begun : Program → ℕ → ProcessState
+begun program devices = record {
+  shared = first_shared program devices;
+  regs = first_regs program;
   end = None;
 }
 

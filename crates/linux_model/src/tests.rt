@@ -1,5 +1,6 @@
 use super::*;
 use elf_file::read;
+use file_tree::Text;
 use guest_core::{End, FIRST_THREAD, start};
 use std::alloc::Global;
 use std::test::Fail;
@@ -34,7 +35,8 @@ fn process(alloc: Global, words: &[u32]) -> Result<Process, Fail> {
         bytes.extend_from_slice(&word.to_le_bytes())?;
     }
     let elf = read(alloc, &bytes)?;
-    Ok(Process::of(alloc, start(alloc, &elf, 3)?))
+    let name = [Text::new(alloc, "a")?];
+    Ok(Process::of(alloc, start(alloc, &elf, &name, &[], 3)?))
 }
 
 #[test]

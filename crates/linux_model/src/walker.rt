@@ -46,15 +46,14 @@ impl Model for Process {
 
 impl Process {
     ghost use Rattle.guest_core.specs.Machine.{Machine, Shared};
-    ghost use Rattle.elf_file.specs.Reading.{Image};
-    ghost use Rattle.guest_core.specs.Start.{started};
+    ghost use Rattle.guest_core.specs.Start.{Program, started};
     ghost use Rattle.linux_model.specs.Process.{begun};
 
     /// The process of a core as `start` left it.
     #[tactic(auto, unfolding(guest_core::specs::Start::started, crate::specs::Process::begun))]
     pub fn of(alloc: Global, core: Core) -> Process
-        requires { (image : Image) × (devices : ℕ) × (core ≡ started image devices) }
-        ensures { (image : Image) (devices : ℕ) → core ≡ started image devices → result ≡ begun image devices }
+        requires { (program : Program) × (devices : ℕ) × (core ≡ started program devices) }
+        ensures { (program : Program) (devices : ℕ) → core ≡ started program devices → result ≡ begun program devices }
     {
         let CoreParts {
             memory,

@@ -1,6 +1,6 @@
 //! Stores, and copies into the guest's memory.
 
-ghost use Rattle.std.specs.Prelude.{◌≡◌, length, OnOk, OnErr};
+ghost use Rattle.std.specs.Prelude.{◌≡◌, ◌+◌, ◌%◌, ◌≤◌, length, true, false, None, OnOk, OnErr};
 ghost use Rattle.byteorder.specs.Endian.{little_bytes};
 ghost use Rattle.guest_pages.specs.Faults.{first_fault, answer_or, writable};
 ghost use Rattle.guest_pages.specs.Operations.{written};
@@ -43,11 +43,33 @@ impl Pages {
         ensures ok { OnOk result (self.new ≡ written at (little_bytes (size_of width) value) self.old) }
         ensures err { OnErr result (self.new ≡ self.old) }
     {
-        let bytes = value.to_le_bytes();
-        let part = &bytes[..width.size()];
-        if write_near(&mut self.tables, at, part) {
+        if self.store_near(at, width, value) {
             return Ok(());
         }
-        self.copy_in(at, part)
+        self.store_apart(at, width, value)
+    }
+
+    /// The same by one look-up, where the bytes lie in one page and can be written, and whether they do; else nothing changes.
+    #[inline(always)]
+    pub fn store_near(&mut self, at: u64, width: Width, value: u64) -> bool
+        ensures good { result ≡ true → first_fault writable self.old at (size_of width) ≡ None }
+        ensures stored { result ≡ true → self.new ≡ written at (little_bytes (size_of width) value) self.old }
+        ensures stays { result ≡ false → self.new ≡ self.old }
+        ensures near { at % 4096 + size_of width ≤ 4096 → first_fault writable self.old at (size_of width) ≡ None → result ≡ true }
+    {
+        let bytes = value.to_le_bytes();
+        write_near(&mut self.tables, at, &bytes[..width.size()])
+    }
+
+    /// The same for bytes that lie in two pages, or that can't be written.
+    #[cold]
+    #[inline(never)]
+    fn store_apart(&mut self, at: u64, width: Width, value: u64) -> Result<(), PageFault>
+        ensures answer { result ≡ answer_or (first_fault writable self.old at (size_of width)) tt }
+        ensures ok { OnOk result (self.new ≡ written at (little_bytes (size_of width) value) self.old) }
+        ensures err { OnErr result (self.new ≡ self.old) }
+    {
+        let bytes = value.to_le_bytes();
+        self.copy_in(at, &bytes[..width.size()])
     }
 }

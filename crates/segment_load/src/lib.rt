@@ -1,0 +1,27 @@
+//! The segments of a file in the guest's memory.
+//!
+//! # Model
+//!
+//! A file's segments are a list of images (`elf_file`), memory is a list of ranges (`guest_pages`). `specs/Loading.antt`
+//! says what stands at each address: nothing where no segment has a byte in its page, else the rights of all segments that
+//! have a byte in its page, and the byte that the file gives, or 0.
+//!
+//! # What the layer above knows
+//!
+//! `load` makes that memory, and nothing else but want of memory is answered. `wanted_pages` tells how many pages the
+//! segments store: each page of a segment that has a right, once.
+//!
+//! # Sources
+//!
+//! System V ABI, "Program Loading". That a page has the rights of all its segments is the project's own.
+#![tactic(auto)]
+
+mod counting;
+mod loading;
+mod rights;
+
+pub use counting::wanted_pages;
+pub use loading::load;
+
+#[cfg(test)]
+mod tests;

@@ -1,0 +1,5 @@
+pub mod ContentFacts
+pub mod PlacedFacts
+pub mod TextFacts
+pub mod WordFacts
+pub mod FoundFacts

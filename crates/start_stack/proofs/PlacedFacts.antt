@@ -1,0 +1,122 @@
+-- What stands in the stack can be written, also after some of it was written.
+use Rattle.std.proofs.Common.{◌≡◌, ℕ, zero, suc, ◌+◌, ◌-◌, ◌^◌, ◌<◌, ◌≤◌, Bool, true, false, if◌then◌else◌, nat_lt, List, [], ◌∷◌, length, get_or, Option, Some, None, refl, sym, ap, ◌∙◌, arith}
+use Rattle.std.proofs.lemmas.Bool.Decides.{nat_tests}
+use Rattle.guest_pages.specs.declared.rights.Rights.{Rights}
+use Rattle.guest_pages.specs.Cells.{Cell, cell}
+use Rattle.guest_pages.specs.Counting.{rights_of}
+use Rattle.guest_pages.specs.Faults.{fault_of, first_fault, writable}
+use Rattle.guest_pages.specs.Operations.{placed, written, with_byte}
+use Rattle.guest_pages.specs.Ranges.{Range, within, cell_at, with_cell, ranges_from, ranges_of}
+use Rattle.guest_pages.proofs.FaultFacts.{fault_none}
+use Rattle.guest_pages.proofs.Reading.{IsKept, reads_back}
+use Rattle.guest_pages.proofs.RightsFacts.{within_inside}
+use Rattle.guest_pages.proofs.TableFacts.{cell_kept}
+use Rattle.start_stack.specs.Block.{stack_end}
+use Rattle.start_stack.specs.Contents.{IsInside}
+use Rattle.start_stack.specs.Placing.{stack_length, stack_rights, with_pages}
+
+-- cells that are equal in a range make equal ranges of it
+ranges_alike : (f g : ℕ → Option Cell) (a n : ℕ) → ((k : ℕ) → a ≤ k → k < a + n → f k ≡ g k) → ranges_from f a n ≡ ranges_from g a n
+unfolding ranges_from
+ranges_alike f g a zero same = refl
+ranges_alike f g a (suc n) same =
+    ap (λ (o : Option Cell). with_cell a o (ranges_from f (a + 1) n)) (same a (omega arith) (omega arith))
+    ∙ ap (with_cell a (g a)) (ranges_alike f g (a + 1) n (λ k low high. same k (omega arith) (omega arith)))
+
+-- the cells of user memory alone
+user : (ℕ → Option Cell) → ℕ → Option Cell
+user f k = if nat_lt k (2 ^ 38) then f k else None
+
+user_below : (f : ℕ → Option Cell) (k : ℕ) → k < 2 ^ 38 → user f k ≡ f k
+unfolding user
+user_below f k below =
+    let e : nat_lt k (2 ^ 38) ≡ true = grind (arith, nat_tests) in
+    rw e refl
+
+user_past : (f : ℕ → Option Cell) (k : ℕ) → 2 ^ 38 ≤ k → user f k ≡ None
+unfolding user
+user_past f k past =
+    let e : nat_lt k (2 ^ 38) ≡ false = grind (arith, nat_tests) in
+    rw e refl
+
+kept_if : (b : Bool) (o : Option Cell) → IsKept o → IsKept (if b then o else None)
+kept_if true o kept = kept
+kept_if false o kept = tt
+
+user_kept : (f : ℕ → Option Cell) (k : ℕ) → IsKept (f k) → IsKept (user f k)
+unfolding user
+user_kept f k kept = kept_if (nat_lt k (2 ^ 38)) (f k) kept
+
+-- what stands at an address of user memory is the cell
+pub reads_below : (f : ℕ → Option Cell) (b : ℕ) → ((k : ℕ) → IsKept (f k)) → b < 2 ^ 38 → cell_at (ranges_of f) b ≡ f b
+unfolding ranges_of
+reads_below f b kept below =
+    ap (λ (m : List Range). cell_at m b) (ranges_alike f (user f) 0 (2 ^ 38) (λ k low high. sym (user_below f k (omega arith))))
+    ∙ (reads_back (user f) b (λ k. user_kept f k (kept k)) (λ k past. user_past f k past)
+    ∙ user_below f b below)
+
+pub choice_kept : (b : Bool) (x y : Option Cell) → IsKept x → IsKept y → IsKept (if b then x else y)
+choice_kept true x y kept-x kept-y = kept-x
+choice_kept false x y kept-x kept-y = kept-y
+
+-- each cell of ranges without rights holds 0
+pub ranges_kept : (memory : List Range) (a : ℕ) → IsKept (cell_at memory a)
+unfolding cell_at
+ranges_kept [] a = tt
+ranges_kept (range ∷ ranges) a =
+    choice_kept (within range.start range.length a) (Some (cell range.rights (get_or range.bytes (a - range.start) 0))) (cell_at ranges a)
+    (cell_kept range.rights (get_or range.bytes (a - range.start) 0)) (ranges_kept ranges a)
+
+pub byte_kept : (byte : ℕ) (o : Option Cell) → IsKept (with_byte byte o)
+byte_kept byte None = tt
+byte_kept byte (Some c) = cell_kept c.rights byte
+
+-- what stands where zeros were placed
+placed_cell : (start count : ℕ) (rights : Rights) (memory : List Range) (a : ℕ) → start ≤ a → a < start + count → a < 2 ^ 38 → cell_at (placed start count rights memory) a ≡ Some (cell rights 0)
+unfolding placed
+placed_cell start count rights memory a low high below =
+    reads_below _ a (λ k. choice_kept (within start count k) (Some (cell rights 0)) (cell_at memory k) (cell_kept rights 0) (ranges_kept memory k)) below
+    ∙ ap (λ (b : Bool). if b then Some (cell rights 0) else cell_at memory a) (within_inside start count a low high)
+
+byte_rights : (byte : ℕ) (o : Option Cell) → rights_of (with_byte byte o) ≡ rights_of o
+byte_rights byte None = refl
+byte_rights byte (Some c) = refl
+
+choice_rights : (b : Bool) (byte : ℕ) (o : Option Cell) → rights_of (if b then with_byte byte o else o) ≡ rights_of o
+choice_rights true byte o = byte_rights byte o
+choice_rights false byte o = refl
+
+-- a write leaves the rights
+pub written_rights : (start : ℕ) (bytes : List ℕ) (memory : List Range) (a : ℕ) → a < 2 ^ 38 → rights_of (cell_at (written start bytes memory) a) ≡ rights_of (cell_at memory a)
+unfolding written
+written_rights start bytes memory a below =
+    ap rights_of (reads_below _ a (λ k. choice_kept (within start (length bytes) k) (with_byte (get_or bytes (k - start) 0) (cell_at memory k)) (cell_at memory k) (byte_kept (get_or bytes (k - start) 0) (cell_at memory k)) (ranges_kept memory k)) below)
+    ∙ choice_rights (within start (length bytes) a) (get_or bytes (a - start) 0) (cell_at memory a)
+
+-- an address with the stack's rights can be written
+good_cell : (o : Option Cell) (a : ℕ) → rights_of o ≡ Some stack_rights → fault_of writable a o ≡ None
+good_cell None a same = cc
+good_cell (Some c) a same =
+    let e : c.rights ≡ stack_rights = cc in
+    rw e refl
+
+pub stack_rights_at : (memory : List Range) (a : ℕ) → stack_end - stack_length ≤ a → a < stack_end → rights_of (cell_at (with_pages memory) a) ≡ Some stack_rights
+stack_rights_at memory a low high =
+    ap rights_of (placed_cell (stack_end - stack_length) stack_length stack_rights memory a low (omega arith) (omega arith))
+
+-- bytes in the stack can be written
+pub fresh_good : (memory : List Range) (at : ℕ) (bytes : List ℕ) → IsInside at bytes → first_fault writable (with_pages memory) at (length bytes) ≡ None
+fresh_good memory at bytes inside =
+    let low = inside.low in
+    let high = inside.high in
+    fault_none writable (with_pages memory) at (length bytes) (λ k from below.
+    good_cell (cell_at (with_pages memory) k) k (stack_rights_at memory k (omega arith) (omega arith)))
+
+-- also after others were written
+pub written_good : (memory : List Range) (at place : ℕ) (bytes others : List ℕ) → IsInside at bytes → first_fault writable (written place others (with_pages memory)) at (length bytes) ≡ None
+written_good memory at place bytes others inside =
+    let low = inside.low in
+    let high = inside.high in
+    fault_none writable (written place others (with_pages memory)) at (length bytes) (λ k from below.
+    good_cell (cell_at (written place others (with_pages memory)) k) k
+    (written_rights place others (with_pages memory) k (omega arith) ∙ stack_rights_at memory k (omega arith) (omega arith)))
