@@ -6,7 +6,7 @@ use Rattle.isa_exec.specs.declared.effect.Effect.{Effect}
 use Rattle.isa_exec.specs.declared.effect.Effect.TheVariants as effect
 use Rattle.isa_exec.specs.declared.registers.Regs.{Regs}
 use Rattle.isa_exec.specs.Arithmetic.{is_taken}
-use Rattle.isa_exec.specs.Execution.{effect_of, is_alone, is_operation, regs_after}
+use Rattle.isa_exec.specs.Execution.{effect_of, is_alone, is_operation, is_transfer, regs_after}
 use Rattle.isa_exec.specs.Registers.{register}
 use Rattle.guest_pages.specs.declared.fault.PageFault.{PageFault}
 use Rattle.guest_pages.specs.Ranges.{Range}
@@ -190,3 +190,21 @@ operation_is_row thread (Amo op wide order rd rs1 rs2) size regs memory held alo
 operation_is_row thread (Fence code rd rs1 imm) size regs memory held alone = cc
 operation_is_row thread Ecall size regs memory held alone = cc
 operation_is_row thread Ebreak size regs memory held alone = cc
+
+pub transfer_is_row : (thread : ℕ) (instr : Instr) (size : ℕ) (regs : Regs) (memory : List Range) (held : List Held) → is_transfer instr ≡ true → executed thread instr size regs memory held ≡ Outcome.Runs (regs_after instr size regs) memory held
+unfolding executed
+transfer_is_row thread (Lui rd imm) size regs memory held alone = cc
+transfer_is_row thread (Auipc rd imm) size regs memory held alone = cc
+transfer_is_row thread (Jal rd imm) size regs memory held alone = refl
+transfer_is_row thread (Jalr rd rs1 imm) size regs memory held alone = refl
+transfer_is_row thread (Branch cmp rs1 rs2 imm) size regs memory held alone = refl
+transfer_is_row thread (Load kind rd rs1 imm) size regs memory held alone = cc
+transfer_is_row thread (Store width rs1 rs2 imm) size regs memory held alone = cc
+transfer_is_row thread (OpImm op rd rs1 imm) size regs memory held alone = cc
+transfer_is_row thread (Op op rd rs1 rs2) size regs memory held alone = cc
+transfer_is_row thread (LoadReserved wide order rd rs1) size regs memory held alone = cc
+transfer_is_row thread (StoreConditional wide order rd rs1 rs2) size regs memory held alone = cc
+transfer_is_row thread (Amo op wide order rd rs1 rs2) size regs memory held alone = cc
+transfer_is_row thread (Fence code rd rs1 imm) size regs memory held alone = cc
+transfer_is_row thread Ecall size regs memory held alone = cc
+transfer_is_row thread Ebreak size regs memory held alone = cc

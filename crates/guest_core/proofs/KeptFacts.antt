@@ -272,9 +272,9 @@ execute_keeps machine keeps loop clear =
 -- ---- calls
 
 -- a call leaves memory and what is pending
-record Leaves (old new : Shared) : Type 0 where
-  memory : new.memory ≡ old.memory
-  pending : new.pending ≡ old.pending
+pub record Leaves (old new : Shared) : Type 0 where
+  pub memory : new.memory ≡ old.memory
+  pub pending : new.pending ≡ old.pending
 
 written_leaves : (bad : Option PageFault) (descriptor at count : ℕ) (shared : Shared) → Leaves shared (call.written bad descriptor at count shared).shared
 written_leaves (Some bad) descriptor at count shared = record { memory = refl; pending = refl }
@@ -295,7 +295,7 @@ made_leaves regs shared =
     either_leaves _ _ _ shared (write_leaves _ _ _ shared)
     (either_leaves _ _ _ shared (record { memory = refl; pending = refl }) (record { memory = refl; pending = refl }))
 
-called_leaves : (regs : Regs) (shared : Shared) → Leaves shared (call.called regs shared).shared
+pub called_leaves : (regs : Regs) (shared : Shared) → Leaves shared (call.called regs shared).shared
 unfolding call.called
 called_leaves regs shared =
     let leaves = made_leaves regs shared in
@@ -350,8 +350,3 @@ unfolding stepped
 step_keeps machine keeps =
     let next = tick_keeps machine keeps in
     done_keeps (row_of (ticked machine)) (ticked machine) next (row_fits (ticked machine) next)
-
--- and so does a step that may want memory and leave the state
-pub try_keeps : {E : Type 0} (result : Result (Unit {0}) E) (old new : Machine) → OnOk result (new ≡ stepped (ticked old)) → OnErr result (new ≡ old) → Keeps old → Keeps new
-try_keeps (Ok done) old new ok err keeps = rw ok (step_keeps old keeps)
-try_keeps (Err error) old new ok err keeps = rw err keeps

@@ -1,5 +1,8 @@
 pub mod Due
-pub mod CodeFacts
+pub mod ApartFacts
+pub mod KnownFacts
+pub mod SegmentFacts
+pub mod SoundFacts
 pub mod EffectFacts
 pub mod Noted
 pub mod KeptFacts

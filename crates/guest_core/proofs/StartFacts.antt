@@ -1,7 +1,20 @@
 -- That the start keeps what every state keeps.
-use Rattle.std.proofs.Common.{ℕ, refl}
-use Rattle.guest_core.specs.Start.{Program, started}
+use Rattle.std.proofs.Common.{ℕ, ◌-◌, List, map, refl}
+use Rattle.std.specs.List.{All}
+use Rattle.elf_file.specs.declared.image.Elf.{Elf}
+use Rattle.elf_file.specs.Reading.{image}
+use Rattle.elf_file.specs.Views.{segment_image}
+use Rattle.guest_pages.specs.Ranges.{Range}
+use Rattle.start_stack.specs.Block.{stack_end}
+use Rattle.start_stack.specs.Placing.{stack_length, stack_rights, with_stack}
+use Rattle.guest_core.specs.declared.decoder.Known.{Known}
+use Rattle.guest_core.specs.Apart.{IsApart}
+use Rattle.guest_core.specs.Start.{Program, being_written, first_memory, program_of, runnable, started, trampoline, trampoline_bytes, with_trampoline}
 use Rattle.guest_core.specs.Kept.{Keeps}
+use Rattle.guest_core.specs.Known.{IsKnown}
+use Rattle.guest_core.specs.Sound.{IsSound}
+use Rattle.guest_core.proofs.ApartFacts.{apart_placed, apart_protected, apart_written}
+use Rattle.guest_core.proofs.SegmentFacts.{all_one_way, apart_loaded}
 
 pub start_keeps : (program : Program) (devices : ℕ) → Keeps (started program devices)
 unfolding started
@@ -11,4 +24,21 @@ start_keeps program devices = record {
   window_clear = λ window. refl;
   at_call = λ apart. absurd (apart refl);
   zero = refl;
+}
+
+-- no page of a file, of the trampoline and of the stack can be both written and executed
+first_apart : (elf : Elf) (args env : List (List ℕ)) → IsApart (first_memory (program_of (image elf) args env))
+unfolding first_memory with_stack with_trampoline
+first_apart elf args env =
+    let segments = apart_loaded (map segment_image elf.segments.items) elf.clear (all_one_way elf.segments.items) in
+    let page = apart_protected trampoline 4096 runnable _ refl (apart_written trampoline trampoline_bytes _ (apart_placed trampoline 4096 being_written _ refl segments)) in
+    apart_written _ _ _ (apart_written _ _ _ (apart_placed (stack_end - stack_length) stack_length stack_rights _ refl page))
+
+-- so a start keeps what every state keeps, where nothing that isn't there is remembered
+pub start_sound : (elf : Elf) (args env : List (List ℕ)) (devices : ℕ) (known : List Known) → ((memory : List Range) → All (IsKnown memory) known) → IsSound (started (program_of (image elf) args env) devices) known
+unfolding started
+start_sound elf args env devices known all = record {
+  keeps = start_keeps (program_of (image elf) args env) devices;
+  apart = first_apart elf args env;
+  right = all (first_memory (program_of (image elf) args env));
 }

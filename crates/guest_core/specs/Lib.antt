@@ -2,7 +2,9 @@ pub mod Pending
 pub mod Instruction
 pub mod Machine
 pub mod Made
-pub mod Code
+pub mod Known
+pub mod Apart
+pub mod Sound
 pub mod Signals
 pub mod Call
 pub mod Rows

@@ -1,113 +1,86 @@
-//! Code that was decoded, kept by its bits.
+//! Instructions that were found, kept by their address.
 
-ghost use Rattle.std.specs.Prelude.{◌≡◌, ◌<◌, IfSome, IfOk};
+ghost use Rattle.std.specs.Prelude.{◌≡◌, ◌<◌, List, IfOk};
 ghost use Rattle.std.specs.List.{All};
-ghost use Rattle.isa_decode.specs.Ranges.{InRange};
-ghost use Rattle.guest_core.specs.Code.{instruction_of_code, IsDecoded};
+ghost use Rattle.guest_pages.specs.Ranges.{Range};
+ghost use Rattle.guest_core.specs.Known.{IsKnown};
 
-use isa_compressed::expand;
-use isa_decode::{Instr, decode};
+use isa_decode::Instr;
 use std::alloc::{AllocError, Global};
 use std::marker::Model;
 
-/// How many places there are.
-const PLACES: usize = 1024;
-
-/// An instruction, and its code: a half word, or a word, whose two low bits are set.
+/// An instruction, its byte address, and its number of bytes: 2 or 4, or 0 where nothing is kept. Whether it accesses memory
+/// or transfers control tells which form to look for first, and changes no answer.
 #[derive(Clone, Copy)]
-struct Decoded {
-    code: u32,
-    instr: Instr,
+pub struct Known {
+    pub address: u64,
+    pub size: u8,
+    pub accesses: bool,
+    pub transfers: bool,
+    pub instr: Instr,
 }
 
-/// What was decoded, each at the place that its code has. An instruction is a function of its code alone, so that what
-/// is kept stays right whatever becomes of memory. Contracts see nothing of it: it changes no answer.
+/// Instructions that were found, each at the place that its address has, of which there are 4,096; two whose addresses
+/// share a place take turns. What can be executed can't be written, so that none of them changes. Contracts see the
+/// places.
 #[derive(Drop)]
 pub struct Decoder {
-    places: Box<[Decoded; 1024]>,
+    places: Box<[Known; 4096]>,
 }
 
 impl Model for Decoder {
-    ghost use Rattle.std.specs.List.{All};
-    ghost use Rattle.guest_core.specs.Code.{IsDecoded};
+    ghost use Rattle.std.specs.Prelude.{List};
+    ghost use Rattle.guest_core.specs.declared.decoder.Known.{Known};
 
-    ghost Value = { Unit {0} };
+    ghost Value = { List Known };
 
-    ghost view = { λ decoder. tt };
-
-    ghost invariant = { λ decoder. All IsDecoded decoder.places.value };
+    ghost view = { λ decoder. decoder.places.value };
 }
 
-/// The place of a code, by Fibonacci hashing.
+/// The place of an address.
 #[inline(always)]
-fn place(code: u32) -> usize
-    ensures { result < 1024 }
+fn place(address: u64) -> usize
+    ensures { result < 4096 }
 {
-    (code.wrapping_mul(0x9E37_79B1) / 0x40_0000) as usize
+    (address / 2 % 4096) as usize
 }
 
 impl Decoder {
-    /// Only `ecall` is kept. It takes 24 KiB.
+    /// Nothing is kept. It takes 128 KiB.
     pub fn new(alloc: Global) -> Result<Decoder, AllocError>
-        ensures { IfOk result (λ decoder. decoder ≡ tt) }
+        ensures { IfOk result (λ decoder. (memory : List Range) → All (IsKnown memory) decoder) }
     {
-        let ecall = Decoded {
-            code: 0x0000_0073,
+        let nothing = Known {
+            address: 0,
+            size: 0,
+            accesses: false,
+            transfers: false,
             instr: Instr::Ecall,
         };
-        let places = Box::new(alloc, [ecall; 1024])?;
+        let places = Box::new(alloc, [nothing; 4096])?;
         Ok(Decoder { places })
     }
 
-    /// The instruction of a code, where it is kept.
+    /// What is kept at the place of an address, which may be another's.
     #[inline(always)]
-    pub fn kept(&self, code: u32) -> Option<&Instr>
-        ensures is { IfSome result (λ instr. instruction_of_code code ≡ Some instr.now) }
-        ensures range { IfSome result (λ instr. InRange instr.now) }
+    pub fn at(&self, address: u64) -> &Known
+        ensures { (memory : List Range) → All (IsKnown memory) self.now → IsKnown memory result.now }
     {
-        kept_in(&self.places, code)
+        known_at(&self.places, address)
     }
 
-    /// The instruction of a code, which is kept from now on.
-    #[cold]
-    #[inline(never)]
-    pub fn decoded(&mut self, code: u32) -> Option<Instr>
-        ensures is { result ≡ instruction_of_code code }
-        ensures range { IfSome result InRange }
+    /// Keeps an instruction.
+    pub fn keep(&mut self, known: Known)
+        ensures { (memory : List Range) → All (IsKnown memory) self.old → IsKnown memory known → All (IsKnown memory) self.new }
     {
-        match instruction(code) {
-            Some(instr) => {
-                self.places[place(code)] = Decoded { code, instr };
-                Some(instr)
-            }
-            None => None,
-        }
+        self.places[place(known.address)] = known;
     }
 }
 
 /// The same for the places.
 #[inline(always)]
-fn kept_in(places: &[Decoded; 1024], code: u32) -> Option<&Instr>
-    requires { All IsDecoded places.now }
-    ensures is { IfSome result (λ instr. instruction_of_code code ≡ Some instr.now) }
-    ensures range { IfSome result (λ instr. InRange instr.now) }
+fn known_at(places: &[Known; 4096], address: u64) -> &Known
+    ensures { (memory : List Range) → All (IsKnown memory) places.now → IsKnown memory result.now }
 {
-    let decoded = &places[place(code)];
-    if decoded.code == code {
-        Some(&decoded.instr)
-    } else {
-        None
-    }
-}
-
-/// The instruction of a code.
-fn instruction(code: u32) -> Option<Instr>
-    ensures is { result ≡ instruction_of_code code }
-    ensures range { IfSome result InRange }
-{
-    if code % 4 == 3 {
-        decode(code)
-    } else {
-        expand((code % 0x1_0000) as u16)
-    }
+    &places[place(address)]
 }

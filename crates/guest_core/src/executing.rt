@@ -1,6 +1,7 @@
 //! One instruction, found at pc, made, and its effect carried out.
 
 ghost use Rattle.std.specs.Prelude.{◌≡◌, ◌⊎◌, ◌+◌, ◌*◌, ◌<◌, ◌^◌, ℕ, List, IfSome, IfOk, IfErr, OnOk, OnErr, true, false, None, Ok, Err, MatchResult};
+ghost use Rattle.std.specs.List.{All};
 ghost use Rattle.isa_compressed.specs.Expansion.{expansion};
 ghost use Rattle.isa_decode.specs.Listing.{decoding};
 ghost use Rattle.isa_decode.specs.Ranges.{InRange};
@@ -13,17 +14,17 @@ ghost use Rattle.guest_pages.specs.Sizes.{size_of as bytes_of};
 ghost use Rattle.word_memory.specs.declared.reservations.Held.{Held};
 ghost use Rattle.word_memory.specs.Reservations.{stored_to};
 ghost use Rattle.guest_core.specs.Ahead.{IsPlain};
-ghost use Rattle.guest_core.specs.Code.{instruction_of_code};
+ghost use Rattle.guest_core.specs.Known.{IsKnown};
 ghost use Rattle.guest_core.specs.Effects.{carried, HasRegister};
 ghost use Rattle.guest_core.specs.Made.{outcome};
 
-use crate::decoder::Decoder;
+use crate::decoder::{Decoder, Known};
 use crate::queue::Fault;
 use crate::signal::SigNo;
 use guest_pages::{PageFault, Pages};
 use isa_compressed::expand;
 use isa_decode::{AmoOp, Instr, LoadKind, Width, decode};
-use isa_exec::{Effect, Regs, address, exec, exec_alone, exec_operation};
+use isa_exec::{Effect, Regs, address, exec, exec_alone, exec_operation, exec_transfer};
 use word_memory::{Reservations, WordFault, amo, load_reserved, store_conditional};
 
 /// What an instruction came to.
@@ -487,10 +488,10 @@ pub fn make_instruction(
 }
 
 /// Makes the thread's instruction at pc where it neither asks for a call nor faults, and tells whether it does; else all
-/// stays. It decodes only what isn't kept. It takes no memory, and constant time, but for the reservations of threads,
-/// which a store goes through.
+/// stays. It looks for it only where it isn't kept. It takes no memory, and constant time, but for the reservations of
+/// threads, which a store goes through.
 #[inline(always)]
-#[tactic(auto, unfolding(crate::specs::Instruction::instruction, crate::specs::Instruction::found))]
+#[tactic(auto, using(crate::proofs::KnownFacts::known_is), unfolding(crate::specs::Instruction::instruction))]
 pub(crate) fn make_plain(
     thread: u32,
     regs: &mut Regs,
@@ -498,34 +499,58 @@ pub(crate) fn make_plain(
     held: &mut Reservations,
     decoder: &mut Decoder,
 ) -> bool
+    requires { All (IsKnown memory.old) decoder.old }
     ensures made { result ≡ true → instruction thread regs.old memory.old held.old ≡ Outcome.Runs regs.new memory.new held.new }
     ensures stops { result ≡ false → IsPlain (instruction thread regs.old memory.old held.old) → ⊥ }
     ensures stays { result ≡ false → (regs.new ≡ regs.old) × (memory.new ≡ memory.old) × (held.new ≡ held.old) }
+    ensures known { All (IsKnown memory.old) decoder.new }
 {
-    match memory.fetch_pair(regs.pc) {
-        Some((low, high)) => {
-            if low % 4 == 3 {
-                let code = u32::from(high) * 0x1_0000 + u32::from(low);
-                match decoder.kept(code) {
-                    Some(instr) => make_known(thread, instr, 4, regs, memory, held),
-                    None => make_new(thread, code, 4, regs, memory, held, decoder),
-                }
-            } else {
-                let code = u32::from(low);
-                match decoder.kept(code) {
-                    Some(instr) => make_known(thread, instr, 2, regs, memory, held),
-                    None => make_new(thread, code, 2, regs, memory, held, decoder),
-                }
-            }
+    let known = decoder.at(regs.pc);
+    if known.address == regs.pc {
+        if known.size == 4 {
+            return make_known(thread, known, 4, regs, memory, held);
         }
-        None => make_apart(thread, regs, memory, held),
+        if known.size == 2 {
+            return make_known(thread, known, 2, regs, memory, held);
+        }
     }
+    make_new(thread, regs, memory, held, decoder)
 }
 
-/// The same of an instruction of `size` bytes. The forms that programs use most are looked for first, a few at a time.
+/// The same of an instruction of `size` bytes. What kind it is was looked at when it was kept, so that a few tests find its
+/// form: on many processors a jump by a table costs more.
 #[inline(always)]
-#[tactic(auto, using(crate::proofs::EffectFacts::operation_is_row), unfolding(crate::specs::Instruction::loads, crate::specs::Instruction::executed))]
+#[tactic(auto, using(crate::proofs::EffectFacts::operation_is_row))]
 fn make_known(
+    thread: u32,
+    known: &Known,
+    size: u64,
+    regs: &mut Regs,
+    memory: &mut Pages,
+    held: &mut Reservations,
+) -> bool
+    requires range { InRange known.now.instr }
+    requires size { (size ≡ 2) ⊎ (size ≡ 4) }
+    ensures made { result ≡ true → executed thread known.now.instr size regs.old memory.old held.old ≡ Outcome.Runs regs.new memory.new held.new }
+    ensures stops { result ≡ false → IsPlain (executed thread known.now.instr size regs.old memory.old held.old) → ⊥ }
+    ensures stays { result ≡ false → (regs.new ≡ regs.old) × (memory.new ≡ memory.old) × (held.new ≡ held.old) }
+{
+    if known.accesses {
+        return make_access(thread, &known.instr, size, regs, memory, held);
+    }
+    if known.transfers {
+        return make_transfer(thread, &known.instr, size, regs, memory, held);
+    }
+    if exec_operation(&known.instr, size, regs) {
+        return true;
+    }
+    make_alone(thread, &known.instr, size, regs, memory, held)
+}
+
+/// The same, where loads and stores within one page go first.
+#[inline(always)]
+#[tactic(auto, unfolding(crate::specs::Instruction::loads, crate::specs::Instruction::stores, crate::specs::Instruction::executed))]
+fn make_access(
     thread: u32,
     instr: &Instr,
     size: u64,
@@ -545,29 +570,6 @@ fn make_known(
             return true;
         }
     }
-    if exec_operation(instr, size, regs) {
-        return true;
-    }
-    make_further(thread, instr, size, regs, memory, held)
-}
-
-/// The same, where stores go first, and then those on registers alone.
-#[inline(never)]
-#[tactic(auto, using(crate::proofs::EffectFacts::alone_is_row, crate::proofs::EffectFacts::else_stays), unfolding(crate::specs::Instruction::stores, crate::specs::Instruction::executed))]
-fn make_further(
-    thread: u32,
-    instr: &Instr,
-    size: u64,
-    regs: &mut Regs,
-    memory: &mut Pages,
-    held: &mut Reservations,
-) -> bool
-    requires range { InRange instr.now }
-    requires size { (size ≡ 2) ⊎ (size ≡ 4) }
-    ensures made { result ≡ true → executed thread instr.now size regs.old memory.old held.old ≡ Outcome.Runs regs.new memory.new held.new }
-    ensures stops { result ≡ false → IsPlain (executed thread instr.now size regs.old memory.old held.old) → ⊥ }
-    ensures stays { result ≡ false → (regs.new ≡ regs.old) × (memory.new ≡ memory.old) × (held.new ≡ held.old) }
-{
     if let Instr::Store {
         width,
         rs1,
@@ -583,6 +585,49 @@ fn make_further(
             return true;
         }
     }
+    make_other(thread, instr, size, regs, memory, held)
+}
+
+/// The same, where branches and jumps go first.
+#[inline(always)]
+#[tactic(auto, using(crate::proofs::EffectFacts::transfer_is_row))]
+fn make_transfer(
+    thread: u32,
+    instr: &Instr,
+    size: u64,
+    regs: &mut Regs,
+    memory: &mut Pages,
+    held: &mut Reservations,
+) -> bool
+    requires range { InRange instr.now }
+    requires size { (size ≡ 2) ⊎ (size ≡ 4) }
+    ensures made { result ≡ true → executed thread instr.now size regs.old memory.old held.old ≡ Outcome.Runs regs.new memory.new held.new }
+    ensures stops { result ≡ false → IsPlain (executed thread instr.now size regs.old memory.old held.old) → ⊥ }
+    ensures stays { result ≡ false → (regs.new ≡ regs.old) × (memory.new ≡ memory.old) × (held.new ≡ held.old) }
+{
+    if exec_transfer(instr, size, regs) {
+        return true;
+    }
+    make_other(thread, instr, size, regs, memory, held)
+}
+
+/// The same, where those on registers alone go first.
+#[inline(never)]
+#[tactic(auto, using(crate::proofs::EffectFacts::alone_is_row, crate::proofs::EffectFacts::else_stays))]
+fn make_alone(
+    thread: u32,
+    instr: &Instr,
+    size: u64,
+    regs: &mut Regs,
+    memory: &mut Pages,
+    held: &mut Reservations,
+) -> bool
+    requires range { InRange instr.now }
+    requires size { (size ≡ 2) ⊎ (size ≡ 4) }
+    ensures made { result ≡ true → executed thread instr.now size regs.old memory.old held.old ≡ Outcome.Runs regs.new memory.new held.new }
+    ensures stops { result ≡ false → IsPlain (executed thread instr.now size regs.old memory.old held.old) → ⊥ }
+    ensures stays { result ≡ false → (regs.new ≡ regs.old) × (memory.new ≡ memory.old) × (held.new ≡ held.old) }
+{
     if exec_alone(instr, size, regs) {
         return true;
     }
@@ -641,7 +686,7 @@ fn put_short_near(width: Width, at: u64, value: u64, memory: &mut Pages) -> bool
 }
 
 /// What a register holds of a load whose bytes lie in one page and can be read. The kinds that programs use most go first,
-/// three at a time, since on many processors a jump by a table costs more than a few tests.
+/// since on many processors a jump by a table costs more than a few tests.
 #[inline(always)]
 fn load_near(kind: LoadKind, at: u64, memory: &Pages) -> Option<u64>
     ensures { IfSome result (λ value. answer_or
@@ -660,57 +705,33 @@ fn load_near(kind: LoadKind, at: u64, memory: &Pages) -> Option<u64>
     if let LoadKind::Lbu = kind {
         return memory.load_near(at, guest_pages::Width::One);
     }
-    load_half_near(kind, at, memory)
-}
-
-/// The same of half words.
-#[inline(never)]
-fn load_half_near(kind: LoadKind, at: u64, memory: &Pages) -> Option<u64>
-    ensures { IfSome result (λ value. answer_or
-        (first_fault readable memory.now at (load_size kind))
-        (loaded kind (little_number (load_size kind) (bytes_at memory.now at (load_size kind)))) ≡ Ok value) }
-{
-    if let LoadKind::Lhu = kind {
-        return memory.load_near(at, guest_pages::Width::Two);
-    }
-    if let LoadKind::Lh = kind {
-        return match memory.load_near(at, guest_pages::Width::Two) {
-            Some(value) => Some(signed_half(value)),
-            None => None,
-        };
-    }
-    load_word_near(kind, at, memory)
-}
-
-/// The same of the other kinds, of which two are left.
-#[inline(never)]
-fn load_word_near(kind: LoadKind, at: u64, memory: &Pages) -> Option<u64>
-    ensures { IfSome result (λ value. answer_or
-        (first_fault readable memory.now at (load_size kind))
-        (loaded kind (little_number (load_size kind) (bytes_at memory.now at (load_size kind)))) ≡ Ok value) }
-{
-    if let LoadKind::Lwu = kind {
-        return memory.load_near(at, guest_pages::Width::Four);
-    }
-    if let LoadKind::Lb = kind {
-        return match memory.load_near(at, guest_pages::Width::One) {
-            Some(value) => Some(signed_byte(value)),
-            None => None,
-        };
-    }
-    load_any_near(kind, at, memory)
+    load_other_near(kind, at, memory)
 }
 
 /// The same of any kind.
 #[inline(never)]
-fn load_any_near(kind: LoadKind, at: u64, memory: &Pages) -> Option<u64>
+fn load_other_near(kind: LoadKind, at: u64, memory: &Pages) -> Option<u64>
     ensures { IfSome result (λ value. answer_or
         (first_fault readable memory.now at (load_size kind))
         (loaded kind (little_number (load_size kind) (bytes_at memory.now at (load_size kind)))) ≡ Ok value) }
 {
-    match memory.load_near(at, width_of_load(kind)) {
-        Some(value) => Some(fill(kind, value)),
-        None => None,
+    match kind {
+        LoadKind::Lb => match memory.load_near(at, guest_pages::Width::One) {
+            Some(value) => Some(signed_byte(value)),
+            None => None,
+        },
+        LoadKind::Lh => match memory.load_near(at, guest_pages::Width::Two) {
+            Some(value) => Some(signed_half(value)),
+            None => None,
+        },
+        LoadKind::Lw => match memory.load_near(at, guest_pages::Width::Four) {
+            Some(value) => Some(signed_word(value)),
+            None => None,
+        },
+        LoadKind::Ld => memory.load_near(at, guest_pages::Width::Eight),
+        LoadKind::Lbu => memory.load_near(at, guest_pages::Width::One),
+        LoadKind::Lhu => memory.load_near(at, guest_pages::Width::Two),
+        LoadKind::Lwu => memory.load_near(at, guest_pages::Width::Four),
     }
 }
 
@@ -737,42 +758,49 @@ fn make_other(
     }
 }
 
-/// The same of an instruction of `size` bytes that isn't kept.
+/// The same of an instruction that isn't kept, which is kept from now on.
 #[cold]
 #[inline(never)]
+#[tactic(auto, unfolding(crate::specs::Instruction::instruction))]
 fn make_new(
     thread: u32,
-    code: u32,
-    size: u64,
     regs: &mut Regs,
     memory: &mut Pages,
     held: &mut Reservations,
     decoder: &mut Decoder,
 ) -> bool
-    requires size { (size ≡ 2) ⊎ (size ≡ 4) }
-    ensures made { result ≡ true → of_found thread (is_or_illegal regs.old.pc size (instruction_of_code code)) regs.old memory.old held.old ≡ Outcome.Runs regs.new memory.new held.new }
-    ensures stops { result ≡ false → IsPlain (of_found thread (is_or_illegal regs.old.pc size (instruction_of_code code)) regs.old memory.old held.old) → ⊥ }
-    ensures stays { result ≡ false → (regs.new ≡ regs.old) × (memory.new ≡ memory.old) × (held.new ≡ held.old) }
-{
-    match decoder.decoded(code) {
-        Some(instr) => make_other(thread, &instr, size, regs, memory, held),
-        None => false,
-    }
-}
-
-/// The same where the code doesn't lie in one page, or can't be executed.
-#[cold]
-#[inline(never)]
-fn make_apart(thread: u32, regs: &mut Regs, memory: &mut Pages, held: &mut Reservations) -> bool
+    requires { All (IsKnown memory.old) decoder.old }
     ensures made { result ≡ true → instruction thread regs.old memory.old held.old ≡ Outcome.Runs regs.new memory.new held.new }
     ensures stops { result ≡ false → IsPlain (instruction thread regs.old memory.old held.old) → ⊥ }
     ensures stays { result ≡ false → (regs.new ≡ regs.old) × (memory.new ≡ memory.old) × (held.new ≡ held.old) }
+    ensures known { All (IsKnown memory.old) decoder.new }
 {
-    match make_instruction(thread, regs, memory, held) {
-        Ok(Made::Done) => true,
-        Ok(Made::Call) => false,
+    match find(regs, memory) {
+        Ok((instr, size)) => {
+            decoder.keep(Known {
+                address: regs.pc,
+                size: size as u8,
+                accesses: accesses(&instr),
+                transfers: transfers(&instr),
+                instr,
+            });
+            make_other(thread, &instr, size, regs, memory, held)
+        }
         Err(_) => false,
     }
+}
+
+/// Whether it is a load or a store. It is asked for speed alone.
+fn accesses(instr: &Instr) -> bool {
+    matches!(*instr, Instr::Load { .. } | Instr::Store { .. })
+}
+
+/// Whether it is a branch or a jump. It is asked for speed alone.
+fn transfers(instr: &Instr) -> bool {
+    matches!(
+        *instr,
+        Instr::Branch { .. } | Instr::Jal { .. } | Instr::Jalr { .. }
+    )
 }
 
 /// Whether the instruction at pc asks for a call of the system. It takes no memory.

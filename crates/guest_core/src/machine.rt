@@ -2,11 +2,13 @@ ghost use Rattle.std.specs.Prelude.{◌≡◌, ◌≤◌, ◌<◌, replicate, []
 ghost use Rattle.std.specs.Option.{option_copied};
 ghost use Rattle.guest_core.specs.Event.{is_enabled, event_after, run};
 ghost use Rattle.guest_core.specs.Ahead.{GoesOn};
+ghost use Rattle.guest_core.specs.Apart.{KeepsCode};
 ghost use Rattle.guest_core.specs.Machine.{first_thread};
 ghost use Rattle.guest_core.specs.Runs.{TakesNoMemory, Stopped};
 ghost use Rattle.guest_core.specs.Growth.{lengthens, Lengthened};
 
 use crate::calls::WRITE;
+use crate::decoder::Decoder;
 use crate::ends::End;
 use crate::events::Event;
 use crate::output::Outputs;
@@ -38,10 +40,12 @@ pub struct CoreParts {
     pub regs: Regs,
 }
 
-/// The emulator's machine. Contracts see its whole state; its type keeps what `Keeps` says of each state.
+/// The emulator's machine. Contracts see its whole state; its type keeps what `Keeps` says of each state, that nothing can
+/// be both written and executed, and that the instructions that it remembers are those that stand in memory.
 #[derive(Drop)]
 pub struct Core {
     state: State,
+    decoder: Decoder,
 }
 
 impl Model for Core {
@@ -50,22 +54,22 @@ impl Model for Core {
     ghost Value = { Machine };
 
     ghost use Rattle.guest_core.specs.State.{machine};
-    ghost use Rattle.guest_core.specs.Kept.{Keeps};
+    ghost use Rattle.guest_core.specs.Sound.{IsSound};
 
     ghost view = { λ core. machine core.state };
 
-    ghost invariant = { λ core. Keeps (machine core.state) };
+    ghost invariant = { λ core. IsSound (machine core.state) core.decoder };
 }
 
 impl Core {
     ghost use Rattle.guest_core.specs.State.{machine};
-    ghost use Rattle.guest_core.specs.Kept.{Keeps};
+    ghost use Rattle.guest_core.specs.Sound.{IsSound};
 
-    pub(crate) fn from_state(state: State) -> Core
-        requires { Keeps (machine state) }
+    pub(crate) fn from_state(state: State, decoder: Decoder) -> Core
+        requires { IsSound (machine state) decoder }
         ensures { result ≡ machine state }
     {
-        Core { state }
+        Core { state, decoder }
     }
 
     /// Makes an event. After a refusal the state is as before. It takes constant time, and memory only where a call
@@ -78,6 +82,7 @@ impl Core {
         ensures not_enabled { event_after self.old event.now ≡ None → result ≡ Err CoreRefusal.NotNow }
         ensures steady { TakesNoMemory self.old event.now → IsOk result }
         ensures outputs { OnOk result (Lengthened (lengthens self.old event.now) self.old.shared.outputs self.new.shared.outputs) }
+        ensures code { OnOk result (KeepsCode self.old.shared.memory self.new.shared.memory) }
     {
         if !self.enabled(event) {
             return Err(CoreRefusal::NotNow);
@@ -97,11 +102,12 @@ impl Core {
         ensures stops { result < limit → GoesOn self.new → ⊥ }
         ensures outputs { self.new.shared.outputs ≡ self.old.shared.outputs }
         ensures end { self.new.end ≡ self.old.end }
+        ensures code { KeepsCode self.old.shared.memory self.new.shared.memory }
     {
         if !self.state.is_ready() {
             return 0;
         }
-        self.state.run_on(limit)
+        self.state.run_on(&mut self.decoder, limit)
     }
 
     /// Makes events up to the first that is refused, whose index is told with its refusal. The state is that before
@@ -172,7 +178,7 @@ impl Core {
         ensures outputs { result.outputs ≡ self.shared.outputs }
         ensures regs { result.regs ≡ self.regs }
     {
-        let Core { state } = self;
+        let Core { state, decoder: _ } = self;
         let State {
             host: Host {
                 memory,

@@ -1,6 +1,7 @@
 //! The rows of a thread's step, each a function.
 
 ghost use Rattle.std.specs.Prelude.{◌≡◌, ◌≢◌, ◌+◌, ◌≤◌, ◌<◌, replicate, ◌^◌, [], true, false, Some, None, OnOk, OnErr, IsOk};
+ghost use Rattle.std.specs.List.{All};
 ghost use Rattle.guest_core.specs.Pending.{first_new, first_of};
 ghost use Rattle.guest_core.specs.Rows.{noted, taken, flag_cleared, executed, checked, entered, returned, done, flagged_row, stepped, ticked, instruction_of, IsSteady};
 ghost use Rattle.guest_core.specs.Ahead.{IsReady, IsPlain};
@@ -8,8 +9,11 @@ ghost use Rattle.guest_core.specs.Event.{event_after, run};
 ghost use Rattle.guest_core.specs.Machine.{first_thread};
 ghost use Rattle.guest_core.specs.State.{machine};
 ghost use Rattle.guest_core.specs.Instruction.{IsFaultless};
+ghost use Rattle.guest_core.specs.Apart.{IsApart, KeepsCode};
+ghost use Rattle.guest_core.specs.Known.{IsKnown};
 
 use crate::calls::Outcome;
+use crate::decoder::Decoder;
 use crate::ends::End;
 use crate::events::Event;
 use crate::executing::{Made, make_instruction, make_plain};
@@ -124,20 +128,25 @@ impl State {
 
     /// Makes the next instruction, if it neither asks for a call nor faults; else the state stays.
     #[inline(always)]
-    fn go_on(&mut self) -> bool
-        requires { IsReady (machine self.old) }
+    fn go_on(&mut self, decoder: &mut Decoder) -> bool
+        requires ready { IsReady (machine self.old) }
+        requires apart { IsApart self.old.host.memory }
+        requires known { All (IsKnown self.old.host.memory) decoder.old }
         ensures made { result ≡ true → event_after (machine self.old) (Event.Step first_thread) ≡ Some (machine self.new) }
         ensures ready { IsReady (machine self.new) }
         ensures stays { result ≡ false → machine self.new ≡ machine self.old }
         ensures stops { result ≡ false → IsPlain (instruction_of (machine self.old)) → ⊥ }
         ensures outputs { (machine self.new).shared.outputs ≡ (machine self.old).shared.outputs }
+        ensures code { KeepsCode self.old.host.memory self.new.host.memory }
+        ensures apart { IsApart self.new.host.memory }
+        ensures known { All (IsKnown self.new.host.memory) decoder.new }
     {
         if !make_plain(
             FIRST_THREAD,
             &mut self.regs,
             &mut self.host.memory,
             &mut self.host.held,
-            &mut self.decoder,
+            decoder,
         ) {
             return false;
         }
@@ -146,16 +155,21 @@ impl State {
     }
 
     /// Makes instructions, at most so many, up to the first that asks for a call or faults, and tells how many it made.
-    pub fn run_on(&mut self, limit: u32) -> u32
-        requires { IsReady (machine self.old) }
+    pub fn run_on(&mut self, decoder: &mut Decoder, limit: u32) -> u32
+        requires ready { IsReady (machine self.old) }
+        requires apart { IsApart self.old.host.memory }
+        requires known { All (IsKnown self.old.host.memory) decoder.old }
         ensures most { result ≤ limit }
         ensures ran { run (Some (machine self.old)) (replicate result (Event.Step first_thread)) ≡ Some (machine self.new) }
         ensures ready { IsReady (machine self.new) }
         ensures stops { result < limit → IsPlain (instruction_of (machine self.new)) → ⊥ }
         ensures outputs { (machine self.new).shared.outputs ≡ (machine self.old).shared.outputs }
+        ensures code { KeepsCode self.old.host.memory self.new.host.memory }
+        ensures apart { IsApart self.new.host.memory }
+        ensures known { All (IsKnown self.new.host.memory) decoder.new }
     {
         for made in 0..limit {
-            if !self.go_on() {
+            if !self.go_on(decoder) {
                 return made;
             }
         }

@@ -81,8 +81,12 @@ pub fn start(
     if wanted > MOST_PAGES {
         return Err(StartFault::PagesFull { wanted });
     }
-    match state_of(alloc, elf, args, env, devices) {
-        Ok(state) => Ok(Core::from_state(state)),
+    let state = match state_of(alloc, elf, args, env, devices) {
+        Ok(state) => state,
+        Err(_) => return Err(StartFault::Memory),
+    };
+    match Decoder::new(alloc) {
+        Ok(decoder) => Ok(Core::from_state(state, decoder)),
         Err(_) => Err(StartFault::Memory),
     }
 }
@@ -102,7 +106,6 @@ fn state_of(
     let mut held = Reservations::new(alloc);
     held.add_thread(FIRST_THREAD)?;
     let outputs = Outputs::new(alloc, devices)?;
-    let decoder = Decoder::new(alloc)?;
     let mut x = [0; 32];
     x[2] = pointer;
     Ok(State {
@@ -113,7 +116,6 @@ fn state_of(
             pending: Pending::new(),
             clock: 0,
         },
-        decoder,
         regs: Regs { pc: elf.entry, x },
         place: Place::Loop,
         flag: false,

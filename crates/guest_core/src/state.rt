@@ -1,4 +1,3 @@
-use crate::decoder::Decoder;
 use crate::ends::End;
 use crate::output::Outputs;
 use crate::places::Place;
@@ -22,7 +21,6 @@ pub struct Host {
 #[derive(Drop)]
 pub struct State {
     pub host: Host,
-    pub decoder: Decoder,
     pub regs: Regs,
     pub place: Place,
     pub flag: bool,

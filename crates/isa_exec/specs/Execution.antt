@@ -51,6 +51,24 @@ is_operation (instr.Fence code rd rs1 imm) = false
 is_operation instr.Ecall = false
 is_operation instr.Ebreak = false
 
+-- the instruction is a branch or a jump
+abbrev pub is_transfer : Instr → Bool
+is_transfer (instr.Lui rd imm) = false
+is_transfer (instr.Auipc rd imm) = false
+is_transfer (instr.Jal rd imm) = true
+is_transfer (instr.Jalr rd rs1 imm) = true
+is_transfer (instr.Branch cmp rs1 rs2 imm) = true
+is_transfer (instr.Load kind rd rs1 imm) = false
+is_transfer (instr.Store width rs1 rs2 imm) = false
+is_transfer (instr.OpImm op rd rs1 imm) = false
+is_transfer (instr.Op op rd rs1 rs2) = false
+is_transfer (instr.LoadReserved wide order rd rs1) = false
+is_transfer (instr.StoreConditional wide order rd rs1 rs2) = false
+is_transfer (instr.Amo op wide order rd rs1 rs2) = false
+is_transfer (instr.Fence code rd rs1 imm) = false
+is_transfer instr.Ecall = false
+is_transfer instr.Ebreak = false
+
 -- the instruction asks for nothing but registers
 abbrev pub is_alone : Instr → Bool
 is_alone (instr.Lui rd imm) = true

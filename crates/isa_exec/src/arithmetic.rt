@@ -263,8 +263,8 @@ fn remainder_unsigned_word(a: u64, b: u64) -> u64
     }
 }
 
-/// What the operation gives of two registers. The operations that programs use most are looked for first, three at a
-/// time, since on many processors a jump by a table costs more than a few tests.
+/// What the operation gives of two registers. Additions are looked for first, since on many processors a jump by a table
+/// costs more than a test.
 ///
 /// References: the RISC-V unprivileged manual, "Integer Computational Instructions", "Multiplication Operations" and
 /// "Division Operations".
@@ -275,51 +275,40 @@ pub fn calculate(op: AluOp, a: u64, b: u64) -> u64
     if let AluOp::Add = op {
         return add(a, b);
     }
-    if let AluOp::And = op {
-        return a & b;
-    }
-    if let AluOp::Sll = op {
-        return shift_left(a, b);
-    }
-    calculate_often(op, a, b)
+    calculate_other(op, a, b)
 }
 
-/// The same, where three more go first.
+/// The same of any operation, in a function of its own.
 #[inline(never)]
-fn calculate_often(op: AluOp, a: u64, b: u64) -> u64
+fn calculate_other(op: AluOp, a: u64, b: u64) -> u64
     ensures { result ≡ alu op a b }
 {
-    if let AluOp::Sub = op {
-        return subtract(a, b);
-    }
-    if let AluOp::Or = op {
-        return a | b;
-    }
-    if let AluOp::Addw = op {
-        return add_word(a, b);
-    }
-    calculate_seldom(op, a, b)
-}
-
-/// The same, where three more go first.
-#[inline(never)]
-fn calculate_seldom(op: AluOp, a: u64, b: u64) -> u64
-    ensures { result ≡ alu op a b }
-{
-    if let AluOp::Xor = op {
-        return a ^ b;
-    }
-    if let AluOp::Srl = op {
-        return shift_right(a, b);
-    }
-    if let AluOp::Sltu = op {
-        return is_below(a, b);
-    }
     calculate_any(op, a, b)
 }
 
-/// The same of any operation.
+/// What any operation on a register and an immediate gives. Additions are looked for first.
+///
+/// References: the RISC-V unprivileged manual, "Integer Register-Immediate Instructions".
+#[inline(always)]
+pub fn calculate_immediate(op: ImmOp, a: u64, b: u64) -> u64
+    ensures { result ≡ alu (with_register_operand op) a b }
+{
+    if let ImmOp::Addi = op {
+        return add(a, b);
+    }
+    calculate_other_immediate(op, a, b)
+}
+
+/// The same of any operation, in a function of its own.
 #[inline(never)]
+fn calculate_other_immediate(op: ImmOp, a: u64, b: u64) -> u64
+    ensures { result ≡ alu (with_register_operand op) a b }
+{
+    calculate_any(register_form(op), a, b)
+}
+
+/// The same of any operation.
+#[inline(always)]
 fn calculate_any(op: AluOp, a: u64, b: u64) -> u64
     ensures { result ≡ alu op a b }
 {
@@ -356,8 +345,8 @@ fn calculate_any(op: AluOp, a: u64, b: u64) -> u64
 }
 
 /// The operation that does the same with a register in place of the immediate.
-#[inline]
-pub fn register_form(op: ImmOp) -> AluOp
+#[inline(always)]
+fn register_form(op: ImmOp) -> AluOp
     ensures { result ≡ with_register_operand op }
 {
     match op {

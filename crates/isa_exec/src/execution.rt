@@ -1,9 +1,9 @@
 ghost use Rattle.std.specs.Prelude.{◌≡◌, ◌<◌, ◌≤◌, ◌⊎◌, true, false};
 ghost use Rattle.isa_decode.specs.Ranges.{InRange};
-ghost use Rattle.isa_exec.specs.Execution.{effect_of, even, is_alone, is_operation, linked, put, regs_after};
+ghost use Rattle.isa_exec.specs.Execution.{effect_of, even, is_alone, is_operation, is_transfer, linked, put, regs_after};
 ghost use Rattle.isa_exec.specs.Execution.{address as address_of};
 
-use crate::arithmetic::{calculate, holds, register_form};
+use crate::arithmetic::{calculate, calculate_immediate, holds};
 use crate::effect::Effect;
 use crate::registers::Regs;
 use isa_decode::{AluOp, Cmp, ImmOp, Instr};
@@ -102,24 +102,6 @@ fn effect_of(instr: &Instr, regs: &Regs) -> Effect
     }
 }
 
-/// Makes the instruction, of `size` bytes (2 or 4), where it asks for nothing but registers, and tells whether it does.
-/// Else the registers stay. It takes no memory, and constant time. The forms that programs use most are looked for first,
-/// a few at a time, since on many processors a jump by a table costs more than a few tests.
-///
-/// References: the RISC-V unprivileged manual, "RV32I", "RV64I" and "M".
-#[inline(always)]
-pub fn exec_alone(instr: &Instr, size: u64, regs: &mut Regs) -> bool
-    requires range { InRange instr.now }
-    requires size { (size ≡ 2) ⊎ (size ≡ 4) }
-    ensures alone { result ≡ is_alone instr.now }
-    ensures regs { regs.new ≡ regs_after instr.now size regs.old }
-{
-    if exec_operation(instr, size, regs) {
-        return true;
-    }
-    exec_jump(instr, size, regs)
-}
-
 /// Makes the instruction, of `size` bytes (2 or 4), where it is an operation on registers or on a register and an immediate,
 /// and tells whether it is. Else the registers stay. It takes no memory, and constant time.
 ///
@@ -141,13 +123,17 @@ pub fn exec_operation(instr: &Instr, size: u64, regs: &mut Regs) -> bool
     false
 }
 
-/// The same, where branches and jumps go first.
-#[inline(never)]
-fn exec_jump(instr: &Instr, size: u64, regs: &mut Regs) -> bool
+/// Makes the instruction, of `size` bytes (2 or 4), where it is a branch or a jump, and tells whether it is. Else the
+/// registers stay. It takes no memory, and constant time.
+///
+/// References: the RISC-V unprivileged manual, "Control Transfer Instructions".
+#[inline(always)]
+pub fn exec_transfer(instr: &Instr, size: u64, regs: &mut Regs) -> bool
     requires range { InRange instr.now }
     requires size { (size ≡ 2) ⊎ (size ≡ 4) }
-    ensures alone { result ≡ is_alone instr.now }
-    ensures regs { regs.new ≡ regs_after instr.now size regs.old }
+    ensures transfer { result ≡ is_transfer instr.now }
+    ensures made { result ≡ true → regs.new ≡ regs_after instr.now size regs.old }
+    ensures stays { result ≡ false → regs.new ≡ regs.old }
 {
     if let Instr::Branch { cmp, rs1, rs2, imm } = *instr {
         return branch(cmp, rs1, rs2, imm, size, regs);
@@ -158,13 +144,16 @@ fn exec_jump(instr: &Instr, size: u64, regs: &mut Regs) -> bool
     if let Instr::Jalr { rd, rs1, imm } = *instr {
         return jump_to_register(rd, rs1, imm, size, regs);
     }
-    exec_any(instr, size, regs)
+    false
 }
 
-/// The same of any instruction.
+/// Makes the instruction, of `size` bytes (2 or 4), where it asks for nothing but registers, and tells whether it does.
+/// Else the registers stay. It takes no memory, and constant time.
+///
+/// References: the RISC-V unprivileged manual, "RV32I", "RV64I" and "M".
 #[inline(never)]
 #[tactic(auto, unfolding(crate::specs::Execution::regs_after))]
-fn exec_any(instr: &Instr, size: u64, regs: &mut Regs) -> bool
+pub fn exec_alone(instr: &Instr, size: u64, regs: &mut Regs) -> bool
     requires range { InRange instr.now }
     requires size { (size ≡ 2) ⊎ (size ≡ 4) }
     ensures alone { result ≡ is_alone instr.now }
@@ -222,7 +211,7 @@ fn operate_on_immediate(op: ImmOp, rd: u8, rs1: u8, imm: i64, size: u64, regs: &
     ensures made { result ≡ true }
     ensures regs { regs.new ≡ regs_after (Instr.OpImm op rd rs1 imm) size regs.old }
 {
-    let value = calculate(register_form(op), regs.register(rs1), imm.cast_unsigned());
+    let value = calculate_immediate(op, regs.register(rs1), imm.cast_unsigned());
     put(regs, rd, value, size);
     true
 }

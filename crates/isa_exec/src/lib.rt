@@ -17,7 +17,7 @@ mod registers;
 
 pub use arithmetic::sign_extended;
 pub use effect::Effect;
-pub use execution::{address, exec, exec_alone, exec_operation};
+pub use execution::{address, exec, exec_alone, exec_operation, exec_transfer};
 pub use registers::Regs;
 
 #[cfg(test)]

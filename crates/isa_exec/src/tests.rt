@@ -848,3 +848,40 @@ fn operations_are_told_from_other_instructions(rt: HostRuntime) {
         assert_eq!(rt; regs.x[10], value, "{instr:?}");
     }
 }
+
+#[test]
+fn transfers_are_told_from_other_instructions(rt: HostRuntime) {
+    let table = [
+        (
+            Instr::Branch {
+                cmp: Cmp::Bltu,
+                rs1: 11,
+                rs2: 10,
+                imm: -8,
+            },
+            true,
+            0xFFF8,
+            7,
+        ),
+        (Instr::Jal { rd: 10, imm: 16 }, true, 0x1_0010, 0x1_0004),
+        (
+            Instr::Jalr {
+                rd: 0,
+                rs1: 11,
+                imm: 6,
+            },
+            true,
+            8,
+            7,
+        ),
+        (lui(10, 4096), false, 0x1_0000, 7),
+        (Instr::Ecall, false, 0x1_0000, 7),
+    ];
+    for (instr, transfer, next, value) in table {
+        assert!(rt; is_in_range(&instr), "{instr:?}");
+        let mut regs = holding(0x1_0000, 7, 3);
+        assert_eq!(rt; exec_transfer(&instr, 4, &mut regs), transfer, "{instr:?}");
+        assert_eq!(rt; regs.pc, next, "pc of {instr:?}");
+        assert_eq!(rt; regs.x[10], value, "{instr:?}");
+    }
+}

@@ -55,6 +55,14 @@ reads_below f b kept below =
     ∙ (reads_back (user f) b (λ k. user_kept f k (kept k)) (λ k past. user_past f k past)
     ∙ user_below f b below)
 
+-- nothing stands past user memory
+pub reads_past : (f : ℕ → Option Cell) (b : ℕ) → ((k : ℕ) → IsKept (f k)) → 2 ^ 38 ≤ b → cell_at (ranges_of f) b ≡ None
+unfolding ranges_of
+reads_past f b kept past =
+    ap (λ (m : List Range). cell_at m b) (ranges_alike f (user f) 0 (2 ^ 38) (λ k low high. sym (user_below f k (omega arith))))
+    ∙ (reads_back (user f) b (λ k. user_kept f k (kept k)) (λ k high. user_past f k high)
+    ∙ user_past f b past)
+
 pub choice_kept : (b : Bool) (x y : Option Cell) → IsKept x → IsKept y → IsKept (if b then x else y)
 choice_kept true x y kept-x kept-y = kept-x
 choice_kept false x y kept-x kept-y = kept-y

@@ -1,2 +1,3 @@
 pub mod FaultFacts
 pub mod Mapped
+pub mod QuietFacts

@@ -2,7 +2,7 @@
 -- touches the doubleword ends it, whatever it writes.
 -- Source: the RISC-V unprivileged manual, "Load-Reserved/Store-Conditional Instructions"; the size of 8 bytes, and that
 -- only stores of other threads end a reservation, are the project's own.
-use Rattle.std.specs.Prelude.{ℕ, ◌+◌, ◌-◌, ◌%◌, Bool, false, not, ◌&&◌, ◌==◌, nat_lt, if◌then◌else◌, List, [], ◌∷◌, ◌++◌, map, Option, Some, None}
+use Rattle.std.specs.Prelude.{ℕ, ◌+◌, ◌-◌, ◌%◌, Bool, false, not, ◌&&◌, ◌==◌, nat_lt, if◌then◌else◌, List, [], ◌∷◌, ◌++◌, map, is_some, Option, Some, None}
 use Rattle.std.specs.List.{filter, list_any}
 use Rattle.word_memory.specs.declared.reservations.Held.{Held}
 
@@ -57,3 +57,7 @@ stands thread at held = list_any (λ h. holds thread at h) held
 -- the thread is one of those that joined
 unfoldable pub is_there : ℕ → List Held → Bool
 is_there thread held = list_any (λ h. h.thread == thread) held
+
+-- some thread has a reservation
+abbrev pub any_reserved : List Held → Bool
+any_reserved held = list_any (λ h. is_some h.reserved) held

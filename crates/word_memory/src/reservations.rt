@@ -1,6 +1,6 @@
 ghost use Rattle.std.specs.Prelude.{◌≡◌, [], false, true, None, Some, OnOk, OnErr, map, not, if◌then◌else◌, ◌==◌};
 ghost use Rattle.std.specs.List.{filter};
-ghost use Rattle.word_memory.specs.Reservations.{after_store, holds, is_there, joined, left, reserving, stands, stored_to, touches, with_reservation};
+ghost use Rattle.word_memory.specs.Reservations.{after_store, any_reserved, holds, is_there, joined, left, reserving, stands, stored_to, touches, with_reservation};
 
 use std::alloc::{AllocError, Global};
 use std::marker::Model;
@@ -12,19 +12,25 @@ pub struct Held {
     pub reserved: Option<u64>,
 }
 
-/// The reservations of threads, which contracts see as a list.
+/// The reservations of threads, which contracts see as a list. Whether there is any is kept beside it, so that a store
+/// needn't go through the threads while there is none.
 #[derive(Drop)]
 pub struct Reservations {
     held: Vec<Held>,
+    any: bool,
 }
 
 impl Model for Reservations {
-    ghost use Rattle.std.specs.Prelude.{List};
+    ghost use Rattle.std.specs.Prelude.{List, ◌≡◌};
     ghost use Rattle.word_memory.specs.declared.reservations.Held.{Held};
 
     ghost Value = { List Held };
 
+    ghost use Rattle.word_memory.specs.Reservations.{any_reserved};
+
     ghost view = { λ all. all.held.items };
+
+    ghost invariant = { λ all. all.any ≡ any_reserved all.held.items };
 }
 
 impl Reservations {
@@ -34,11 +40,12 @@ impl Reservations {
     {
         Reservations {
             held: Vec::new(alloc),
+            any: false,
         }
     }
 
     /// A thread joins, without a reservation.
-    #[tactic(auto, unfolding(crate::specs::Reservations::joined))]
+    #[tactic(auto, using(crate::proofs::QuietFacts::joined_any), unfolding(crate::specs::Reservations::joined))]
     pub fn add_thread(&mut self, thread: u32) -> Result<(), AllocError>
         requires { is_there thread self.old ≡ false }
         ensures ok { OnOk result (self.new ≡ joined thread self.old) }
@@ -56,6 +63,7 @@ impl Reservations {
         ensures { self.new ≡ reserving thread None self.old }
     {
         reserve_in(self.held.as_mut_slice(), thread, None);
+        self.any = is_any_reserved(self.held.as_slice());
     }
 
     /// The thread reserves the doubleword at an address. Its cost is in the number of threads.
@@ -63,6 +71,7 @@ impl Reservations {
         ensures { self.new ≡ reserving thread (Some at) self.old }
     {
         reserve_in(self.held.as_mut_slice(), thread, Some(at));
+        self.any = is_any_reserved(self.held.as_slice());
     }
 
     /// Whether the thread's reservation of the doubleword stands. Its cost is in the number of threads.
@@ -73,12 +82,25 @@ impl Reservations {
         self.held.iter().any(|held| is_of(held, thread, at))
     }
 
-    /// A store of the thread to `length` bytes from `at` on ends the reservations of others that it touches. Its cost is
-    /// in the number of threads.
+    /// A store of the thread to `length` bytes from `at` on ends the reservations of others that it touches. It takes
+    /// constant time while there is no reservation; else its cost is in the number of threads.
+    #[inline]
+    #[tactic(auto, using(crate::proofs::QuietFacts::stored_quiet))]
     pub fn stored(&mut self, thread: u32, at: u64, length: u64)
         ensures { self.new ≡ stored_to thread at length self.old }
     {
+        if self.any {
+            self.end_touched(thread, at, length);
+        }
+    }
+
+    /// The same where there is a reservation.
+    #[inline(never)]
+    fn end_touched(&mut self, thread: u32, at: u64, length: u64)
+        ensures { self.new ≡ stored_to thread at length self.old }
+    {
         store_in(self.held.as_mut_slice(), thread, at, length);
+        self.any = is_any_reserved(self.held.as_slice());
     }
 
     /// The thread leaves. Its cost is in the number of threads.
@@ -87,7 +109,15 @@ impl Reservations {
         ensures { self.new ≡ left thread self.old }
     {
         remove_from(&mut self.held, thread);
+        self.any = is_any_reserved(self.held.as_slice());
     }
+}
+
+/// Whether one of them has a reservation.
+fn is_any_reserved(all: &[Held]) -> bool
+    ensures { result ≡ any_reserved all.now }
+{
+    all.iter().any(|held| held.reserved.is_some())
 }
 
 fn remove_from(all: &mut Vec<Held>, thread: u32)

@@ -1,9 +1,10 @@
 use Rattle.std.proofs.Common.{subst, sym}
-use Rattle.elf_file.specs.Reading.{image}
-use Rattle.guest_core.specs.Kept.{Keeps}
-use Rattle.guest_core.specs.Start.{program_of}
-use Rattle.guest_core.proofs.StartFacts.{start_keeps}
+use Rattle.guest_core.specs.Machine.{Machine}
+use Rattle.guest_core.specs.Sound.{IsSound}
+use Rattle.guest_core.proofs.StartFacts.{start_sound}
 use Rattle.guest_core.proofs.starting.start.Goals as goal
 
 pub from_state-requires : goal.from_state-requires
-from_state-requires c = subst Keeps (sym c.in-Ok.ensures) (start_keeps (program_of (image c.args.elf.now) c.args.args.now c.args.env.now) c.args.devices)
+from_state-requires c =
+    subst (λ (m : Machine). IsSound m c.in-Ok-new.decoder) (sym c.in-Ok.ensures)
+    (start_sound c.args.elf.now c.args.args.now c.args.env.now c.args.devices c.in-Ok-new.decoder c.in-Ok-new.ensures)

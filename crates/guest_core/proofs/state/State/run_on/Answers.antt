@@ -13,4 +13,7 @@ loop-made-preserved c = record {
       ∙ c.if-not-go_on.ensures.made refl;
   ready = c.go_on.ensures.ready;
   outputs = c.go_on.ensures.outputs ∙ c.loop-made.invariant.outputs;
+  code = λ a. c.go_on.ensures.code a ∙ c.loop-made.invariant.code a;
+  apart = c.go_on.ensures.apart;
+  known = c.go_on.ensures.known;
 }

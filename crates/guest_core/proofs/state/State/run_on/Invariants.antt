@@ -1,6 +1,9 @@
 use Rattle.std.proofs.Common.{◌≡◌, Some, replicate}
 use Rattle.guest_core.specs.declared.events.Event.TheVariants.{Step}
+use Rattle.std.specs.List.{All}
 use Rattle.guest_core.specs.Ahead.{IsReady}
+use Rattle.guest_core.specs.Apart.{IsApart, KeepsCode}
+use Rattle.guest_core.specs.Known.{IsKnown}
 use Rattle.guest_core.specs.Event.{run}
 use Rattle.guest_core.specs.Machine.{first_thread}
 use Rattle.guest_core.specs.State.{machine}
@@ -11,4 +14,7 @@ invariant-loop-made l = record {
   ran : run (Some (machine l.initial.self)) (replicate l.made (Step first_thread)) ≡ Some (machine l.self);
   ready : IsReady (machine l.self);
   outputs : (machine l.self).shared.outputs ≡ (machine l.initial.self).shared.outputs;
+  code : KeepsCode l.initial.self.host.memory l.self.host.memory;
+  apart : IsApart l.self.host.memory;
+  known : All (IsKnown l.self.host.memory) l.decoder;
 }
