@@ -1,7 +1,6 @@
 -- Each event's labels are steps of the process machine, from the view before it to the view after it. One lemma a row.
 use Rattle.std.proofs.Common.{◌≡◌, ℕ, ◌==◌, ◌&&◌, Bool, true, false, cond, is_none, ℤ, List, [], ◌∷◌, ◌++◌, Option, Some, None, refl, ap, sym, ◌∙◌, subst, arith}
 use Rattle.std.proofs.lemmas.Bool.Decides.{nat_tests}
-use Rattle.std.proofs.lemmas.Grind.{common_steps}
 use Rattle.guest_core.specs.declared.ends.End.{End}
 use Rattle.guest_core.specs.declared.events.Event.{Event}
 use Rattle.guest_core.specs.declared.events.Event.TheVariants.{Step}
@@ -13,7 +12,7 @@ use Rattle.guest_core.specs.Call as call
 use Rattle.guest_core.specs.Event.{is_enabled, event_after, run}
 use Rattle.guest_core.specs.Instruction as instruction
 use Rattle.guest_core.specs.Kept.{Keeps}
-use Rattle.guest_core.specs.Machine.{Shared, Machine, due, first_thread}
+use Rattle.guest_core.specs.Machine.{Shared, Machine, due, is_live}
 use Rattle.guest_core.specs.Pending.{first_of, is_empty}
 use Rattle.guest_core.specs.Rows.{Row, Note, Take, ClearFlag, Execute, Check, Enter, Return, row_of, done, noted_at, noted, taken, flag_cleared, after, executed, checked, after_call, entered, returned, stepped, ticked}
 use Rattle.guest_core.specs.Start.{Program, started}
@@ -28,8 +27,8 @@ use Rattle.emu_top.specs.View.{shown_regs, view}
 use Rattle.emu_top.specs.Labels.{instruction_labels, row_labels, labels_of, run_labels}
 
 -- the row's labels lead from the view before it to the view after it
-abbrev Simulates : Row → Machine → Type 0
-Simulates row machine = process.follow (Some (view machine)) (row_labels row machine) ≡ Some (view (done row machine))
+abbrev Simulates : ℕ → Row → Machine → Type 0
+Simulates thread row machine = process.follow (Some (view machine)) (row_labels thread row machine) ≡ Some (view (done thread row machine))
 
 -- a state at a place, of a process that lives
 abbrev at : Shared → Regs → Place → Bool → List ℕ → Machine
@@ -55,65 +54,65 @@ noted_shows Start regs = refl
 noted_shows Window regs = refl
 noted_shows (Done answer) regs = refl
 
-note_simulates : (instance : Instance) (machine : Machine) → Simulates (Note instance) machine
+note_simulates : (thread : ℕ) (instance : Instance) (machine : Machine) → Simulates thread (Note instance) machine
 unfolding noted
-note_simulates instance machine =
+note_simulates thread instance machine =
     ap (λ (regs : Regs). Some (record { shared = machine.shared; regs = regs; end = machine.end })) (noted_shows machine.place machine.regs)
 
 same_id : (n : ℕ) → (n == n) ≡ true
 same_id n = grind (arith, nat_tests)
 
-take_simulates : (instance : Instance) (machine : Machine) → machine.end ≡ None → first_of (due machine.shared) ≡ Some instance → Simulates (Take instance) machine
+take_simulates : (thread : ℕ) (instance : Instance) (machine : Machine) → is_live thread ≡ true → machine.end ≡ None → first_of (due machine.shared) ≡ Some instance → Simulates thread (Take instance) machine
 unfolding taken process.step
-take_simulates instance machine lives first = rw (lives, first, same_id instance.id) refl
+take_simulates thread instance machine live lives first = rw (lives, live, first, same_id instance.id) refl
 
-clear_simulates : (machine : Machine) → Simulates ClearFlag machine
+clear_simulates : (thread : ℕ) (machine : Machine) → Simulates thread ClearFlag machine
 unfolding flag_cleared
-clear_simulates machine = refl
+clear_simulates thread machine = refl
 
-execute_by : (outcome : instruction.Outcome) (shared : Shared) (regs : Regs) (flag : Bool) (noted : List ℕ) → instruction.instruction first_thread regs shared.memory shared.held ≡ outcome → shared.pending ≡ [] → process.follow (Some (record { shared = shared; regs = regs; end = None })) (instruction_labels outcome) ≡ Some (view (after outcome (at shared regs Loop flag noted)))
+execute_by : (thread : ℕ) (outcome : instruction.Outcome) (shared : Shared) (regs : Regs) (flag : Bool) (noted : List ℕ) → is_live thread ≡ true → instruction.instruction thread regs shared.memory shared.held ≡ outcome → shared.pending ≡ [] → process.follow (Some (record { shared = shared; regs = regs; end = None })) (instruction_labels thread outcome) ≡ Some (view (after outcome (at shared regs Loop flag noted)))
 unfolding process.step
-execute_by (instruction.Outcome.Runs new memory held) shared regs flag noted is none = rw (none, is) refl
-execute_by instruction.Outcome.Calls shared regs flag noted is none = refl
-execute_by (instruction.Outcome.Faults fault) shared regs flag noted is none = rw (none, is) refl
+execute_by thread (instruction.Outcome.Runs new memory held) shared regs flag noted live is none = rw (live, none, is) refl
+execute_by thread instruction.Outcome.Calls shared regs flag noted live is none = refl
+execute_by thread (instruction.Outcome.Faults fault) shared regs flag noted live is none = rw (live, none, is) refl
 
-execute_at : (shared : Shared) (regs : Regs) (flag : Bool) (noted : List ℕ) → shared.pending ≡ [] → Simulates Execute (at shared regs Loop flag noted)
+execute_at : (thread : ℕ) (shared : Shared) (regs : Regs) (flag : Bool) (noted : List ℕ) → is_live thread ≡ true → shared.pending ≡ [] → Simulates thread Execute (at shared regs Loop flag noted)
 unfolding executed
-execute_at shared regs flag noted none = execute_by (instruction.instruction first_thread regs shared.memory shared.held) shared regs flag noted refl none
+execute_at thread shared regs flag noted live none = execute_by thread (instruction.instruction thread regs shared.memory shared.held) shared regs flag noted live refl none
 
-check_at : (shared : Shared) (regs : Regs) (flag : Bool) (noted : List ℕ) → Simulates Check (at shared regs Start flag noted)
+check_at : (thread : ℕ) (shared : Shared) (regs : Regs) (flag : Bool) (noted : List ℕ) → Simulates thread Check (at shared regs Start flag noted)
 unfolding checked
-check_at shared regs true noted = refl
-check_at shared regs false noted = refl
+check_at thread shared regs true noted = refl
+check_at thread shared regs false noted = refl
 
 call_by : (outcome : call.Outcome) (new shared : Shared) (regs : Regs) (flag : Bool) (noted : List ℕ) → process.call_done (record { shared = new; outcome = outcome }) (record { shared = shared; regs = regs; end = None }) ≡ view (after_call (record { shared = new; outcome = outcome }) (at shared regs Window flag noted))
 call_by (call.Outcome.Answers answer) new shared regs flag noted = refl
 call_by (call.Outcome.Ends end) new shared regs flag noted = refl
 
-enter_at : (shared : Shared) (regs : Regs) (flag : Bool) (noted : List ℕ) → instruction.instruction first_thread regs shared.memory shared.held ≡ instruction.Outcome.Calls → shared.pending ≡ [] → Simulates Enter (at shared regs Window flag noted)
+enter_at : (thread : ℕ) (shared : Shared) (regs : Regs) (flag : Bool) (noted : List ℕ) → is_live thread ≡ true → instruction.instruction thread regs shared.memory shared.held ≡ instruction.Outcome.Calls → shared.pending ≡ [] → Simulates thread Enter (at shared regs Window flag noted)
 unfolding entered process.step
-enter_at shared regs flag noted is none =
-    let called = call.called regs shared in
+enter_at thread shared regs flag noted live is none =
+    let called = call.called thread regs shared in
     let empty : is_empty shared.pending ≡ true = ap (λ (pending : List Instance). is_empty pending) none in
-    rw (empty, is) (ap (λ (p : ProcessState). Some p) (call_by called.outcome called.shared shared regs flag noted))
+    rw (live, empty, is) (ap (λ (p : ProcessState). Some p) (call_by called.outcome called.shared shared regs flag noted))
 
-return_at : (answer : ℤ) (shared : Shared) (regs : Regs) (flag : Bool) (noted : List ℕ) → Simulates (Return answer) (at shared regs (Done answer) flag noted)
+return_at : (thread : ℕ) (answer : ℤ) (shared : Shared) (regs : Regs) (flag : Bool) (noted : List ℕ) → Simulates thread (Return answer) (at shared regs (Done answer) flag noted)
 unfolding returned
-return_at answer shared regs flag noted = refl
+return_at thread answer shared regs flag noted = refl
 
-row_simulates : (row : Row) (machine : Machine) → Keeps machine → machine.end ≡ None → Fits row machine → Simulates row machine
-row_simulates (Note instance) machine keeps lives fits = note_simulates instance machine
-row_simulates (Take instance) machine keeps lives fits = take_simulates instance machine lives fits.1
-row_simulates ClearFlag machine keeps lives fits = clear_simulates machine
-row_simulates Execute machine keeps lives fits =
-    subst (Simulates Execute) (sym (written_out machine Loop fits.0 lives)) (execute_at machine.shared machine.regs machine.flag machine.noted fits.2)
-row_simulates Check machine keeps lives fits =
-    subst (Simulates Check) (sym (written_out machine Start fits lives)) (check_at machine.shared machine.regs machine.flag machine.noted)
-row_simulates Enter machine keeps lives fits =
-    let called = keeps.at_call (λ loop. let window = fits.0 in cc) in
-    subst (Simulates Enter) (sym (written_out machine Window fits.0 lives)) (enter_at machine.shared machine.regs machine.flag machine.noted called fits.1)
-row_simulates (Return answer) machine keeps lives fits =
-    subst (Simulates (Return answer)) (sym (written_out machine (Done answer) fits lives)) (return_at answer machine.shared machine.regs machine.flag machine.noted)
+row_simulates : (thread : ℕ) (row : Row) (machine : Machine) → Keeps machine → is_live thread ≡ true → machine.end ≡ None → Fits row machine → Simulates thread row machine
+row_simulates thread (Note instance) machine keeps live lives fits = note_simulates thread instance machine
+row_simulates thread (Take instance) machine keeps live lives fits = take_simulates thread instance machine live lives fits.1
+row_simulates thread ClearFlag machine keeps live lives fits = clear_simulates thread machine
+row_simulates thread Execute machine keeps live lives fits =
+    subst (Simulates thread Execute) (sym (written_out machine Loop fits.0 lives)) (execute_at thread machine.shared machine.regs machine.flag machine.noted live fits.2)
+row_simulates thread Check machine keeps live lives fits =
+    subst (Simulates thread Check) (sym (written_out machine Start fits lives)) (check_at thread machine.shared machine.regs machine.flag machine.noted)
+row_simulates thread Enter machine keeps live lives fits =
+    let called = keeps.at_call (λ loop. let window = fits.0 in cc) thread in
+    subst (Simulates thread Enter) (sym (written_out machine Window fits.0 lives)) (enter_at thread machine.shared machine.regs machine.flag machine.noted live called fits.1)
+row_simulates thread (Return answer) machine keeps live lives fits =
+    subst (Simulates thread (Return answer)) (sym (written_out machine (Done answer) fits lives)) (return_at thread answer machine.shared machine.regs machine.flag machine.noted)
 
 -- ---- an event
 
@@ -125,44 +124,47 @@ lives_on : (machine : Machine) → machine.end ≡ None → (ticked machine).end
 unfolding ticked
 lives_on machine lives = lives
 
-step_simulates : (machine : Machine) (thread : ℕ) → Keeps machine → machine.end ≡ None → process.follow (Some (view machine)) (labels_of machine (Step thread)) ≡ Some (view (stepped (ticked machine)))
+step_simulates : (machine : Machine) (thread : ℕ) → Keeps machine → is_live thread ≡ true → machine.end ≡ None → process.follow (Some (view machine)) (labels_of machine (Step thread)) ≡ Some (view (stepped thread (ticked machine)))
 unfolding labels_of stepped
-step_simulates machine thread keeps lives =
+step_simulates machine thread keeps live lives =
     let next = tick_keeps machine keeps in
-    tick_shows machine (row_labels (row_of (ticked machine)) (ticked machine)) lives
-    ∙ row_simulates (row_of (ticked machine)) (ticked machine) next (lives_on machine lives) (row_fits (ticked machine) next)
+    tick_shows machine (row_labels thread (row_of (ticked machine)) (ticked machine)) lives
+    ∙ row_simulates thread (row_of (ticked machine)) (ticked machine) next live (lives_on machine lives) (row_fits (ticked machine) next)
 
 -- what is known of an event that happened
-record Happened (old new : Machine) : Type 0 where
+record Happened (thread : ℕ) (old new : Machine) : Type 0 where
+  live : is_live thread ≡ true
   lives : old.end ≡ None
-  stepped_to : stepped (ticked old) ≡ new
+  stepped_to : stepped thread (ticked old) ≡ new
 
 none_of : {X : Type 0} (o : Option X) → is_none o ≡ true → o ≡ None
 none_of None is = refl
 none_of (Some x) is = cc
 
-both_by : (first second : Bool) → (first && second) ≡ true → first ≡ true
-both_by first second both = grind (arith, common_steps)
+both_by : (first second : Bool) → (first && second) ≡ true → (first ≡ true) × (second ≡ true)
+both_by true second both = (refl, both)
+both_by false second both = cc
 
 happened_by : (test : Bool) (old new next : Machine) → cond test (Some next) None ≡ Some new → (test ≡ true) × (next ≡ new)
 happened_by true old new next same = (refl, cc)
 happened_by false old new next same = cc
 
-happened : (event : Event) (old new : Machine) → event_after old event ≡ Some new → Happened old new
+happened : (thread : ℕ) (old new : Machine) → event_after old (Step thread) ≡ Some new → Happened thread old new
 unfolding event_after
-happened (Step thread) old new same =
-    let facts = happened_by (is_enabled old (Step thread)) old new (stepped (ticked old)) same in
-    record { lives = none_of old.end (both_by (is_none old.end) (thread == first_thread) facts.0); stepped_to = facts.1 }
+happened thread old new same =
+    let facts = happened_by (is_enabled old (Step thread)) old new (stepped thread (ticked old)) same in
+    let both = both_by (is_none old.end) (is_live thread) facts.0 in
+    record { live = both.1; lives = none_of old.end both.0; stepped_to = facts.1 }
 
 event_keeps : (event : Event) (old new : Machine) → Keeps old → event_after old event ≡ Some new → Keeps new
-event_keeps event old new keeps same =
-    let facts = happened event old new same in
-    subst Keeps facts.stepped_to (step_keeps old keeps)
+event_keeps (Step thread) old new keeps same =
+    let facts = happened thread old new same in
+    subst Keeps facts.stepped_to (step_keeps thread old keeps)
 
 event_simulates : (event : Event) (old new : Machine) → Keeps old → event_after old event ≡ Some new → process.follow (Some (view old)) (labels_of old event) ≡ Some (view new)
 event_simulates (Step thread) old new keeps same =
-    let facts = happened (Step thread) old new same in
-    step_simulates old thread keeps facts.lives ∙ ap (λ (m : Machine). Some (view m)) facts.stepped_to
+    let facts = happened thread old new same in
+    step_simulates old thread keeps facts.live facts.lives ∙ ap (λ (m : Machine). Some (view m)) facts.stepped_to
 
 -- ---- a run
 

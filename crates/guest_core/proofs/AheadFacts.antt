@@ -10,7 +10,7 @@ use Rattle.guest_core.specs.declared.places.Place.{Place}
 use Rattle.guest_core.specs.declared.places.Place.TheVariants.{Loop, Start, Window, Done}
 use Rattle.guest_core.specs.declared.queue.Instance.{Instance}
 use Rattle.guest_core.specs.Instruction as step
-use Rattle.guest_core.specs.Machine.{Machine, due, first_thread, later}
+use Rattle.guest_core.specs.Machine.{Machine, due, is_live, later}
 use Rattle.guest_core.specs.Pending.{first_new, first_of, is_empty}
 use Rattle.guest_core.specs.Rows.{Row, Execute, ClearFlag, note_or, take_or, row_at, row_of, flagged_row, done, executed, after, instruction_of, stepped, ticked}
 use Rattle.guest_core.specs.Event.{event_after, happens, is_enabled, run}
@@ -23,18 +23,18 @@ use Rattle.guest_core.proofs.KeptFacts.{step_keeps}
 abbrev pub plainly : Machine → Regs → List Range → List Held → Machine
 plainly machine regs memory held = record machine { regs = regs; shared = record (later machine.shared) { memory = memory; held = held } }
 
-done_by : (row : Row) (machine : Machine) → row ≡ Execute → done row machine ≡ executed machine
-done_by row machine is = rw is refl
+done_by : (thread : ℕ) (row : Row) (machine : Machine) → row ≡ Execute → done thread row machine ≡ executed thread machine
+done_by thread row machine is = rw is refl
 
-enabled : (machine : Machine) → machine.end ≡ None → event_after machine (Step first_thread) ≡ Some (stepped (ticked machine))
+enabled : (thread : ℕ) (machine : Machine) → is_live thread ≡ true → machine.end ≡ None → event_after machine (Step thread) ≡ Some (stepped thread (ticked machine))
 unfolding event_after
-enabled machine lives = rw lives refl
+enabled thread machine live lives = rw (live, lives) refl
 
-pub plain_step : (machine : Machine) (regs : Regs) (memory : List Range) (held : List Held) → IsReady machine → instruction_of machine ≡ step.Outcome.Runs regs memory held → event_after machine (Step first_thread) ≡ Some (plainly machine regs memory held)
+pub plain_step : (thread : ℕ) (machine : Machine) (regs : Regs) (memory : List Range) (held : List Held) → is_live thread ≡ true → IsReady machine → instruction_of thread machine ≡ step.Outcome.Runs regs memory held → event_after machine (Step thread) ≡ Some (plainly machine regs memory held)
 unfolding stepped executed ticked
-plain_step machine regs memory held ready runs =
-    enabled machine ready.lives
-    ∙ ap Some (done_by (row_of (ticked machine)) (ticked machine) (row_of_ticked machine ∙ ready.row))
+plain_step thread machine regs memory held live ready runs =
+    enabled thread machine live ready.lives
+    ∙ ap Some (done_by thread (row_of (ticked machine)) (ticked machine) (row_of_ticked machine ∙ ready.row))
     ∙ ap (λ outcome. Some (after outcome (ticked machine))) runs
 
 row_at_by : (place : Place) (machine : Machine) (regs : Regs) (memory : List Range) (held : List Held) → row_at place (plainly machine regs memory held) ≡ row_at place machine
@@ -52,15 +52,15 @@ ready_after machine regs memory held ready = record {
 }
 
 -- one such step
-pub record WasMade (old new : Machine) : Type 0 where
-  pub event : event_after old (Step first_thread) ≡ Some new
+pub record WasMade (thread : ℕ) (old new : Machine) : Type 0 where
+  pub event : event_after old (Step thread) ≡ Some new
   pub ready : IsReady new
   pub outputs : new.shared.outputs ≡ old.shared.outputs
 
-pub was_made : (old new : Machine) (regs : Regs) (memory : List Range) (held : List Held) → IsReady old → instruction_of old ≡ step.Outcome.Runs regs memory held → new ≡ ticked (record old { regs = regs; shared = record old.shared { memory = memory; held = held } }) → WasMade old new
+pub was_made : (thread : ℕ) (old new : Machine) (regs : Regs) (memory : List Range) (held : List Held) → is_live thread ≡ true → IsReady old → instruction_of thread old ≡ step.Outcome.Runs regs memory held → new ≡ ticked (record old { regs = regs; shared = record old.shared { memory = memory; held = held } }) → WasMade thread old new
 unfolding ticked
-was_made old new regs memory held ready runs is = subst (WasMade old) (sym is) (record {
-  event = plain_step old regs memory held ready runs;
+was_made thread old new regs memory held live ready runs is = subst (WasMade thread old) (sym is) (record {
+  event = plain_step thread old regs memory held live ready runs;
   ready = ready_after old regs memory held ready;
   outputs = refl;
 })
@@ -120,13 +120,13 @@ pub run_more : (state : Option Machine) (event : Event) (count : ℕ) → run st
 run_more state event count = ap (λ (n : ℕ). run state (replicate n event)) (sym (suc-eq-add-one count)) ∙ run_suc state event count
 
 -- a run keeps what every state keeps
-event_keeps : (alive : Bool) (machine next : Machine) → Keeps machine → cond alive (Some (stepped (ticked machine))) None ≡ Some next → Keeps next
-event_keeps true machine next keeps is = let same : stepped (ticked machine) ≡ next = cc in subst Keeps same (step_keeps machine keeps)
-event_keeps false machine next keeps is = cc
+event_keeps : (thread : ℕ) (alive : Bool) (machine next : Machine) → Keeps machine → cond alive (Some (stepped thread (ticked machine))) None ≡ Some next → Keeps next
+event_keeps thread true machine next keeps is = let same : stepped thread (ticked machine) ≡ next = cc in subst Keeps same (step_keeps thread machine keeps)
+event_keeps thread false machine next keeps is = cc
 
 happens_keeps : (event : Event) (machine next : Machine) → Keeps machine → event_after machine event ≡ Some next → Keeps next
 unfolding event_after
-happens_keeps (Step thread) machine next keeps is = event_keeps (is_enabled machine (Step thread)) machine next keeps is
+happens_keeps (Step thread) machine next keeps is = event_keeps thread (is_enabled machine (Step thread)) machine next keeps is
 
 none_stays : (events : List Event) → run None events ≡ None
 none_stays [] = refl

@@ -2,7 +2,6 @@
 use Rattle.std.proofs.Common.{◌≡◌, ℕ, zero, suc, ◌+◌, ◌-◌, ◌^◌, ◌<◌, ◌≤◌, Bool, true, false, not, ◌&&◌, if◌then◌else◌, List, ◌∷◌, length, get_or, Option, Some, None, inl, inr, refl, sym, ap, ◌∙◌, arith}
 use Rattle.std.proofs.lemmas.Bool.{cases_lt}
 use Rattle.guest_pages.specs.declared.rights.Rights.{Rights}
-use Rattle.guest_pages.specs.declared.fault.PageFault.{PageFault}
 use Rattle.guest_pages.specs.declared.fault.PageFault.TheVariants.{NoAccess}
 use Rattle.guest_pages.specs.Cells.{Cell, cell}
 use Rattle.guest_pages.specs.Faults.{executable, fault_of, first_fault, writable}

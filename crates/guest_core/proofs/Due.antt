@@ -13,15 +13,15 @@ nothing_due [] noted none empty = refl
 nothing_due (instance ∷ due) noted none empty = let none_in_front = rw empty at none in cc
 
 -- whether a row is steady does not depend on the time
-row_ticked : (row : Row) (machine : Machine) → RowIsSteady row machine → RowIsSteady row (ticked machine)
+row_ticked : (thread : ℕ) (row : Row) (machine : Machine) → RowIsSteady thread row machine → RowIsSteady thread row (ticked machine)
 unfolding ticked
-row_ticked (Note instance) machine steady = steady
-row_ticked (Take instance) machine steady = steady
-row_ticked ClearFlag machine steady = steady
-row_ticked Execute machine steady = steady
-row_ticked Check machine steady = steady
-row_ticked Enter machine steady = steady
-row_ticked (Return answer) machine steady = steady
+row_ticked thread (Note instance) machine steady = steady
+row_ticked thread (Take instance) machine steady = steady
+row_ticked thread ClearFlag machine steady = steady
+row_ticked thread Execute machine steady = steady
+row_ticked thread Check machine steady = steady
+row_ticked thread Enter machine steady = steady
+row_ticked thread (Return answer) machine steady = steady
 
 row_at_ticked : (place : Place) (machine : Machine) → row_at place (ticked machine) ≡ row_at place machine
 unfolding ticked flagged_row
@@ -35,5 +35,5 @@ pub row_of_ticked : (machine : Machine) → row_of (ticked machine) ≡ row_of m
 unfolding ticked row_of
 row_of_ticked machine = ap (note_or (first_new (due machine.shared) machine.noted)) (row_at_ticked machine.place machine)
 
-pub steady_ticked : (machine : Machine) → IsSteady machine → IsSteady (ticked machine)
-steady_ticked machine steady = rw (row_of_ticked machine) (row_ticked (row_of machine) machine steady)
+pub steady_ticked : (thread : ℕ) (machine : Machine) → IsSteady thread machine → IsSteady thread (ticked machine)
+steady_ticked thread machine steady = rw (row_of_ticked machine) (row_ticked thread (row_of machine) machine steady)

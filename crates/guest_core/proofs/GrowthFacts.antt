@@ -45,9 +45,9 @@ write_lengthened descriptor at wish shared =
     (call.written (first_fault readable shared.memory at count) descriptor at count shared) (call.refused call.bad_descriptor shared)
     (written_lengthened (first_fault readable shared.memory at count) descriptor at count shared) refl
 
-called_lengthened : (regs : Regs) (shared : Shared) → Lengthened (call.output_of_call regs shared) shared.outputs (call.called regs shared).shared.outputs
+called_lengthened : (thread : ℕ) (regs : Regs) (shared : Shared) → Lengthened (call.output_of_call regs shared) shared.outputs (call.called thread regs shared).shared.outputs
 unfolding call.output_of_call call.called call.made
-called_lengthened regs shared =
+called_lengthened thread regs shared =
     let first = call.write (register regs 10) (register regs 11) (register regs 12) shared in
     let second = call.exit_group (register regs 10) shared in
     let third = call.refused call.no_such_call shared in
@@ -67,27 +67,27 @@ at_window Start machine new window grown = cc
 at_window Window machine new window grown = grown
 at_window (Done answer) machine new window grown = cc
 
-enter_lengthened : (machine : Machine) → machine.place ≡ Window → Lengthened (lengthens_at machine.place machine) machine.shared.outputs (entered machine).shared.outputs
+enter_lengthened : (thread : ℕ) (machine : Machine) → machine.place ≡ Window → Lengthened (lengthens_at machine.place machine) machine.shared.outputs (entered thread machine).shared.outputs
 unfolding entered
-enter_lengthened machine window =
-    let called = call.called machine.regs machine.shared in
-    at_window machine.place machine (entered machine).shared.outputs window
-    (entered_by called.outcome called.shared machine (call.output_of_call machine.regs machine.shared) machine.shared.outputs (called_lengthened machine.regs machine.shared))
+enter_lengthened thread machine window =
+    let called = call.called thread machine.regs machine.shared in
+    at_window machine.place machine (entered thread machine).shared.outputs window
+    (entered_by called.outcome called.shared machine (call.output_of_call machine.regs machine.shared) machine.shared.outputs (called_lengthened thread machine.regs machine.shared))
 
 after_same : (outcome : step.Outcome) (machine : Machine) → (after outcome machine).shared.outputs ≡ machine.shared.outputs
 after_same (step.Outcome.Runs regs memory held) machine = refl
 after_same step.Outcome.Calls machine = refl
 after_same (step.Outcome.Faults fault) machine = refl
 
-row_lengthened : (row : Row) (machine : Machine) → Fits row machine → Lengthened (lengthens_at machine.place machine) machine.shared.outputs (done row machine).shared.outputs
+row_lengthened : (thread : ℕ) (row : Row) (machine : Machine) → Fits row machine → Lengthened (lengthens_at machine.place machine) machine.shared.outputs (done thread row machine).shared.outputs
 unfolding noted taken flag_cleared executed checked returned
-row_lengthened (Note instance) machine fits = same_lengthened _ _ _ refl
-row_lengthened (Take instance) machine fits = same_lengthened _ _ _ refl
-row_lengthened ClearFlag machine fits = same_lengthened _ _ _ refl
-row_lengthened Execute machine fits = same_lengthened _ _ _ (after_same (instruction_of machine) machine)
-row_lengthened Check machine fits = same_lengthened _ _ _ refl
-row_lengthened Enter machine fits = enter_lengthened machine fits.0
-row_lengthened (Return answer) machine fits = same_lengthened _ _ _ refl
+row_lengthened thread (Note instance) machine fits = same_lengthened _ _ _ refl
+row_lengthened thread (Take instance) machine fits = same_lengthened _ _ _ refl
+row_lengthened thread ClearFlag machine fits = same_lengthened _ _ _ refl
+row_lengthened thread Execute machine fits = same_lengthened _ _ _ (after_same (instruction_of thread machine) machine)
+row_lengthened thread Check machine fits = same_lengthened _ _ _ refl
+row_lengthened thread Enter machine fits = enter_lengthened thread machine fits.0
+row_lengthened thread (Return answer) machine fits = same_lengthened _ _ _ refl
 
 -- time changes nothing that a call sees of outputs
 time_by : (place : Place) (machine : Machine) (new : List (List ℕ)) → Lengthened (lengthens_at place (ticked machine)) (ticked machine).shared.outputs new → Lengthened (lengthens_at place machine) machine.shared.outputs new
@@ -101,14 +101,14 @@ row_of_time : (machine : Machine) (new : List (List ℕ)) → Lengthened (length
 unfolding ticked
 row_of_time machine new grown = time_by machine.place machine new grown
 
--- an event lengthens at most that device's output
-pub step_lengthens : (machine : Machine) (thread : ℕ) → Keeps machine → Lengthened (lengthens machine (Step thread)) machine.shared.outputs (stepped (ticked machine)).shared.outputs
+-- an event lengthens at most that device's output, whatever thread makes it
+pub step_lengthens : (machine : Machine) (thread other : ℕ) → Keeps machine → Lengthened (lengthens machine (Step other)) machine.shared.outputs (stepped thread (ticked machine)).shared.outputs
 unfolding stepped lengthens
-step_lengthens machine thread keeps =
+step_lengthens machine thread other keeps =
     let next = tick_keeps machine keeps in
-    row_of_time machine (done (row_of (ticked machine)) (ticked machine)).shared.outputs
-    (row_lengthened (row_of (ticked machine)) (ticked machine) (row_fits (ticked machine) next))
+    row_of_time machine (done thread (row_of (ticked machine)) (ticked machine)).shared.outputs
+    (row_lengthened thread (row_of (ticked machine)) (ticked machine) (row_fits (ticked machine) next))
 
 -- the same of the state that a step gave
-pub new_lengthens : (event : Event) (old new : Machine) → Keeps old → new ≡ stepped (ticked old) → Lengthened (lengthens old event) old.shared.outputs new.shared.outputs
-new_lengthens (Step thread) old new keeps same = rw same (step_lengthens old thread keeps)
+pub new_lengthens : (event : Event) (thread : ℕ) (old new : Machine) → Keeps old → new ≡ stepped thread (ticked old) → Lengthened (lengthens old event) old.shared.outputs new.shared.outputs
+new_lengthens (Step other) thread old new keeps same = rw same (step_lengthens old thread other keeps)

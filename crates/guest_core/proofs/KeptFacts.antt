@@ -1,5 +1,5 @@
 -- That every row keeps what every state keeps.
-use Rattle.std.proofs.Common.{◌≡◌, ◌≢◌, ap, ℕ, ◌==◌, Bool, true, false, cond, ℤ, List, [], ◌∷◌, Option, Some, None, Result, Ok, Err, OnOk, OnErr, slice_index, slice_set, refl, ◌∙◌, arith, get_or-set_other}
+use Rattle.std.proofs.Common.{◌≡◌, ◌≢◌, ap, ℕ, ◌==◌, Bool, true, false, cond, ℤ, List, [], ◌∷◌, Option, Some, None, slice_index, slice_set, refl, ◌∙◌, arith, get_or-set_other}
 use Rattle.std.proofs.lemmas.Grind.{common_steps}
 use Rattle.isa_decode.specs.declared.instruction.Instr.{Instr}
 use Rattle.isa_decode.specs.declared.instruction.Instr.TheVariants.{Lui, Auipc, Jal, Jalr, Branch, Load, Store, OpImm, Op, LoadReserved, StoreConditional, Amo, Fence, Ecall, Ebreak}
@@ -16,7 +16,7 @@ use Rattle.word_memory.specs.declared.reservations.Held.{Held}
 use Rattle.guest_core.specs.Pending.{first_new, first_of, is_empty}
 use Rattle.guest_core.specs.Instruction as step
 use Rattle.guest_core.specs.Call as call
-use Rattle.guest_core.specs.Machine.{Shared, Machine, due, first_thread}
+use Rattle.guest_core.specs.Machine.{Shared, Machine, due}
 use Rattle.guest_core.specs.Rows.{Row, Note, Take, ClearFlag, Execute, Check, Enter, Return, note_or, take_or, row_at, flagged_row, row_of, done, noted_at, noted, taken, flag_cleared, after, executed, checked, after_call, entered, instruction_of, returned, stepped, ticked}
 use Rattle.guest_core.specs.Kept.{Keeps, has_id, all_have}
 use Rattle.guest_core.proofs.Due.{nothing_due}
@@ -227,36 +227,36 @@ instruction_zero : (thread : ℕ) (regs after : Regs) (memory left : List Range)
 unfolding step.instruction
 instruction_zero thread regs after memory left held other same = found_zero thread (step.found regs memory) regs after memory left held other same
 
--- whether an instruction is a call doesn't depend on the reservations
+-- whether an instruction is a call depends neither on the thread nor on the reservations
 
-executed_calls : (thread : ℕ) (instr : Instr) (size : ℕ) (regs : Regs) (memory : List Range) (held other : List Held) → step.executed thread instr size regs memory held ≡ step.Outcome.Calls → step.executed thread instr size regs memory other ≡ step.Outcome.Calls
+executed_calls : (thread another : ℕ) (instr : Instr) (size : ℕ) (regs : Regs) (memory : List Range) (held other : List Held) → step.executed thread instr size regs memory held ≡ step.Outcome.Calls → step.executed another instr size regs memory other ≡ step.Outcome.Calls
 unfolding step.executed
-executed_calls thread instr size regs memory held other same = rw (calls_is_ecall thread instr size regs memory held same) refl
+executed_calls thread another instr size regs memory held other same = rw (calls_is_ecall thread instr size regs memory held same) refl
 
-found_calls : (thread : ℕ) (code : step.Found) (regs : Regs) (memory : List Range) (held other : List Held) → step.of_found thread code regs memory held ≡ step.Outcome.Calls → step.of_found thread code regs memory other ≡ step.Outcome.Calls
-found_calls thread (step.Found.Is instr size) regs memory held other same = executed_calls thread instr size regs memory held other same
-found_calls thread (step.Found.IsNot fault) regs memory held other same = cc
+found_calls : (thread another : ℕ) (code : step.Found) (regs : Regs) (memory : List Range) (held other : List Held) → step.of_found thread code regs memory held ≡ step.Outcome.Calls → step.of_found another code regs memory other ≡ step.Outcome.Calls
+found_calls thread another (step.Found.Is instr size) regs memory held other same = executed_calls thread another instr size regs memory held other same
+found_calls thread another (step.Found.IsNot fault) regs memory held other same = cc
 
-instruction_calls : (thread : ℕ) (regs : Regs) (memory : List Range) (held other : List Held) → step.instruction thread regs memory held ≡ step.Outcome.Calls → step.instruction thread regs memory other ≡ step.Outcome.Calls
+instruction_calls : (thread another : ℕ) (regs : Regs) (memory : List Range) (held other : List Held) → step.instruction thread regs memory held ≡ step.Outcome.Calls → step.instruction another regs memory other ≡ step.Outcome.Calls
 unfolding step.instruction
-instruction_calls thread regs memory held other same = found_calls thread (step.found regs memory) regs memory held other same
+instruction_calls thread another regs memory held other same = found_calls thread another (step.found regs memory) regs memory held other same
 
-after_keeps : (outcome : step.Outcome) (machine : Machine) → instruction_of machine ≡ outcome → Keeps machine → machine.place ≡ Loop → machine.flag ≡ false → Keeps (after outcome machine)
-after_keeps (step.Outcome.Runs regs memory held) machine same keeps loop clear = record {
+after_keeps : (thread : ℕ) (outcome : step.Outcome) (machine : Machine) → instruction_of thread machine ≡ outcome → Keeps machine → machine.place ≡ Loop → machine.flag ≡ false → Keeps (after outcome machine)
+after_keeps thread (step.Outcome.Runs regs memory held) machine same keeps loop clear = record {
   noted_due = keeps.noted_due;
   flag_set = keeps.flag_set;
   window_clear = keeps.window_clear;
   at_call = λ apart. absurd (apart loop);
-  zero = instruction_zero first_thread machine.regs regs machine.shared.memory memory machine.shared.held held same ∙ keeps.zero;
+  zero = instruction_zero thread machine.regs regs machine.shared.memory memory machine.shared.held held same ∙ keeps.zero;
 }
-after_keeps step.Outcome.Calls machine same keeps loop clear = record {
+after_keeps thread step.Outcome.Calls machine same keeps loop clear = record {
   noted_due = keeps.noted_due;
   flag_set = keeps.flag_set;
   window_clear = λ window. cc;
-  at_call = λ apart. same;
+  at_call = λ apart another. instruction_calls thread another machine.regs machine.shared.memory machine.shared.held machine.shared.held same;
   zero = keeps.zero;
 }
-after_keeps (step.Outcome.Faults fault) machine same keeps loop clear = record {
+after_keeps thread (step.Outcome.Faults fault) machine same keeps loop clear = record {
   noted_due = rw (keeps.flag_set clear) refl;
   flag_set = keeps.flag_set;
   window_clear = keeps.window_clear;
@@ -264,10 +264,10 @@ after_keeps (step.Outcome.Faults fault) machine same keeps loop clear = record {
   zero = keeps.zero;
 }
 
-execute_keeps : (machine : Machine) → Keeps machine → machine.place ≡ Loop → machine.flag ≡ false → Keeps (executed machine)
+execute_keeps : (thread : ℕ) (machine : Machine) → Keeps machine → machine.place ≡ Loop → machine.flag ≡ false → Keeps (executed thread machine)
 unfolding executed
-execute_keeps machine keeps loop clear =
-    after_keeps (instruction_of machine) machine refl keeps loop clear
+execute_keeps thread machine keeps loop clear =
+    after_keeps thread (instruction_of thread machine) machine refl keeps loop clear
 
 -- ---- calls
 
@@ -295,9 +295,9 @@ made_leaves regs shared =
     either_leaves _ _ _ shared (write_leaves _ _ _ shared)
     (either_leaves _ _ _ shared (record { memory = refl; pending = refl }) (record { memory = refl; pending = refl }))
 
-pub called_leaves : (regs : Regs) (shared : Shared) → Leaves shared (call.called regs shared).shared
+pub called_leaves : (thread : ℕ) (regs : Regs) (shared : Shared) → Leaves shared (call.called thread regs shared).shared
 unfolding call.called
-called_leaves regs shared =
+called_leaves thread regs shared =
     let leaves = made_leaves regs shared in
     record { memory = leaves.memory; pending = leaves.pending }
 
@@ -306,33 +306,33 @@ after_call_keeps (call.Outcome.Answers answer) shared machine leaves keeps windo
   noted_due = rw leaves.pending keeps.noted_due;
   flag_set = keeps.flag_set;
   window_clear = λ same. cc;
-  at_call = λ apart. rw leaves.memory (instruction_calls first_thread machine.regs machine.shared.memory machine.shared.held shared.held (keeps.at_call (λ loop. cc)));
+  at_call = λ apart another. rw leaves.memory (instruction_calls another another machine.regs machine.shared.memory machine.shared.held shared.held (keeps.at_call (λ loop. cc) another));
   zero = keeps.zero;
 }
 after_call_keeps (call.Outcome.Ends end) shared machine leaves keeps window = record {
   noted_due = rw leaves.pending keeps.noted_due;
   flag_set = keeps.flag_set;
   window_clear = keeps.window_clear;
-  at_call = λ apart. rw leaves.memory (instruction_calls first_thread machine.regs machine.shared.memory machine.shared.held shared.held (keeps.at_call apart));
+  at_call = λ apart another. rw leaves.memory (instruction_calls another another machine.regs machine.shared.memory machine.shared.held shared.held (keeps.at_call apart another));
   zero = keeps.zero;
 }
 
-enter_keeps : (machine : Machine) → Keeps machine → machine.place ≡ Window → Keeps (entered machine)
+enter_keeps : (thread : ℕ) (machine : Machine) → Keeps machine → machine.place ≡ Window → Keeps (entered thread machine)
 unfolding entered
-enter_keeps machine keeps window =
-    let called = call.called machine.regs machine.shared in
-    after_call_keeps called.outcome called.shared machine (called_leaves machine.regs machine.shared) keeps window
+enter_keeps thread machine keeps window =
+    let called = call.called thread machine.regs machine.shared in
+    after_call_keeps called.outcome called.shared machine (called_leaves thread machine.regs machine.shared) keeps window
 
 -- ---- the step
 
-done_keeps : (row : Row) (machine : Machine) → Keeps machine → Fits row machine → Keeps (done row machine)
-done_keeps (Note instance) machine keeps fits = note_keeps instance machine keeps fits
-done_keeps (Take instance) machine keeps fits = take_keeps instance machine keeps
-done_keeps ClearFlag machine keeps fits = clear_keeps machine keeps fits
-done_keeps Execute machine keeps fits = execute_keeps machine keeps fits.0 fits.1
-done_keeps Check machine keeps fits = check_keeps machine keeps fits
-done_keeps Enter machine keeps fits = enter_keeps machine keeps fits.0
-done_keeps (Return answer) machine keeps fits = return_keeps answer machine keeps
+done_keeps : (thread : ℕ) (row : Row) (machine : Machine) → Keeps machine → Fits row machine → Keeps (done thread row machine)
+done_keeps thread (Note instance) machine keeps fits = note_keeps instance machine keeps fits
+done_keeps thread (Take instance) machine keeps fits = take_keeps instance machine keeps
+done_keeps thread ClearFlag machine keeps fits = clear_keeps machine keeps fits
+done_keeps thread Execute machine keeps fits = execute_keeps thread machine keeps fits.0 fits.1
+done_keeps thread Check machine keeps fits = check_keeps machine keeps fits
+done_keeps thread Enter machine keeps fits = enter_keeps thread machine keeps fits.0
+done_keeps thread (Return answer) machine keeps fits = return_keeps answer machine keeps
 
 pub tick_keeps : (machine : Machine) → Keeps machine → Keeps (ticked machine)
 unfolding ticked
@@ -345,8 +345,8 @@ tick_keeps machine keeps = record {
 }
 
 -- a step keeps what every state keeps
-pub step_keeps : (machine : Machine) → Keeps machine → Keeps (stepped (ticked machine))
+pub step_keeps : (thread : ℕ) (machine : Machine) → Keeps machine → Keeps (stepped thread (ticked machine))
 unfolding stepped
-step_keeps machine keeps =
+step_keeps thread machine keeps =
     let next = tick_keeps machine keeps in
-    done_keeps (row_of (ticked machine)) (ticked machine) next (row_fits (ticked machine) next)
+    done_keeps thread (row_of (ticked machine)) (ticked machine) next (row_fits (ticked machine) next)

@@ -1,5 +1,5 @@
 -- No page of a file's segments can be both written and executed.
-use Rattle.std.proofs.Common.{◌≡◌, ℕ, ◌/◌, Bool, true, false, not, ◌&&◌, ◌||◌, if◌then◌else◌, List, [], ◌∷◌, map, Option, Some, None, refl, arith}
+use Rattle.std.proofs.Common.{◌≡◌, ℕ, ◌/◌, Bool, true, false, not, ◌&&◌, ◌||◌, if◌then◌else◌, List, [], ◌∷◌, map, Some, None, refl, arith}
 use Rattle.std.specs.List.{list_all}
 use Rattle.std.proofs.lemmas.Bool.Decides.{nat_tests}
 use Rattle.std.proofs.lemmas.Grind.{common_steps}
@@ -7,7 +7,6 @@ use Rattle.elf_file.specs.declared.loaded.Segment.{Segment}
 use Rattle.elf_file.specs.Segments.{SegmentImage, all_pairs, clashes, is_executable, is_writable, rights_clash, shares_page}
 use Rattle.elf_file.specs.Views.{segment_image}
 use Rattle.guest_pages.specs.Cells.{cell}
-use Rattle.guest_pages.specs.Ranges.{Range}
 use Rattle.guest_pages.proofs.RightsFacts.{both_left, both_right}
 use Rattle.guest_pages.proofs.TableFacts.{cell_kept}
 use Rattle.start_stack.proofs.PlacedFacts.{choice_kept}

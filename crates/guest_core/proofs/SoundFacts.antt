@@ -1,6 +1,5 @@
 -- A step leaves memory in which nothing can be both written and executed, and the code in it.
-use Rattle.std.proofs.Common.{◌≡◌, ℕ, Bool, true, false, cond, ℤ, List, length, Option, Some, None, Result, Ok, Err, OnOk, OnErr, refl, arith, ◌==◌, if◌then◌else◌}
-use Rattle.std.specs.List.{All}
+use Rattle.std.proofs.Common.{◌≡◌, ℕ, Bool, true, false, cond, List, length, Option, Some, None, Result, Ok, Err, OnOk, OnErr, refl}
 use Rattle.byteorder.specs.Endian.{little_bytes}
 use Rattle.isa_decode.specs.declared.instruction.Instr.{Instr}
 use Rattle.isa_decode.specs.declared.instruction.Instr.TheVariants.{Lui, Auipc, Jal, Jalr, Branch, Load, Store, OpImm, Op, LoadReserved, StoreConditional, Amo, Fence, Ecall, Ebreak}
@@ -23,7 +22,7 @@ use Rattle.guest_core.specs.declared.decoder.Known.{Known}
 use Rattle.guest_core.specs.Apart.{IsApart, KeepsCode}
 use Rattle.guest_core.specs.Instruction as step
 use Rattle.guest_core.specs.Call as call
-use Rattle.guest_core.specs.Machine.{Machine, first_thread}
+use Rattle.guest_core.specs.Machine.{Machine}
 use Rattle.guest_core.specs.Rows.{Row, Note, Take, ClearFlag, Execute, Check, Enter, Return, row_of, done, noted, taken, flag_cleared, after, executed, checked, after_call, entered, instruction_of, returned, stepped, ticked}
 use Rattle.guest_core.specs.Sound.{IsSound}
 use Rattle.guest_core.proofs.ApartFacts.{apart_written, code_written}
@@ -115,10 +114,10 @@ instruction_stays thread regs after memory left held other is same = found_stays
 
 -- ---- rows
 
-after_stays : (outcome : step.Outcome) (machine : Machine) → instruction_of machine ≡ outcome → IsApart machine.shared.memory → Stays machine.shared.memory (after outcome machine).shared.memory
-after_stays (step.Outcome.Runs regs memory held) machine same is = instruction_stays first_thread machine.regs regs machine.shared.memory memory machine.shared.held held is same
-after_stays step.Outcome.Calls machine same is = same_stays machine.shared.memory machine.shared.memory is refl
-after_stays (step.Outcome.Faults fault) machine same is = same_stays machine.shared.memory machine.shared.memory is refl
+after_stays : (thread : ℕ) (outcome : step.Outcome) (machine : Machine) → instruction_of thread machine ≡ outcome → IsApart machine.shared.memory → Stays machine.shared.memory (after outcome machine).shared.memory
+after_stays thread (step.Outcome.Runs regs memory held) machine same is = instruction_stays thread machine.regs regs machine.shared.memory memory machine.shared.held held is same
+after_stays thread step.Outcome.Calls machine same is = same_stays machine.shared.memory machine.shared.memory is refl
+after_stays thread (step.Outcome.Faults fault) machine same is = same_stays machine.shared.memory machine.shared.memory is refl
 
 after_call_memory : (called : call.Called) (machine : Machine) → (after_call called machine).shared.memory ≡ called.shared.memory
 after_call_memory called machine = elim called.outcome as (λ outcome. (after_call (record { shared = called.shared; outcome = outcome }) machine).shared.memory ≡ called.shared.memory) [
@@ -126,37 +125,37 @@ after_call_memory called machine = elim called.outcome as (λ outcome. (after_ca
   | call.Outcome.Ends end ↦ refl
 ]
 
-done_stays : (row : Row) (machine : Machine) → IsApart machine.shared.memory → Stays machine.shared.memory (done row machine).shared.memory
+done_stays : (thread : ℕ) (row : Row) (machine : Machine) → IsApart machine.shared.memory → Stays machine.shared.memory (done thread row machine).shared.memory
 unfolding noted taken flag_cleared executed checked entered returned
-done_stays (Note instance) machine is = same_stays machine.shared.memory machine.shared.memory is refl
-done_stays (Take instance) machine is = same_stays machine.shared.memory machine.shared.memory is refl
-done_stays ClearFlag machine is = same_stays machine.shared.memory machine.shared.memory is refl
-done_stays Execute machine is = after_stays (instruction_of machine) machine refl is
-done_stays Check machine is = same_stays machine.shared.memory machine.shared.memory is refl
-done_stays Enter machine is =
-    let called = call.called machine.regs machine.shared in
-    rw (after_call_memory called machine) (same_stays machine.shared.memory called.shared.memory is (called_leaves machine.regs machine.shared).memory)
-done_stays (Return answer) machine is = same_stays machine.shared.memory machine.shared.memory is refl
+done_stays thread (Note instance) machine is = same_stays machine.shared.memory machine.shared.memory is refl
+done_stays thread (Take instance) machine is = same_stays machine.shared.memory machine.shared.memory is refl
+done_stays thread ClearFlag machine is = same_stays machine.shared.memory machine.shared.memory is refl
+done_stays thread Execute machine is = after_stays thread (instruction_of thread machine) machine refl is
+done_stays thread Check machine is = same_stays machine.shared.memory machine.shared.memory is refl
+done_stays thread Enter machine is =
+    let called = call.called thread machine.regs machine.shared in
+    rw (after_call_memory called machine) (same_stays machine.shared.memory called.shared.memory is (called_leaves thread machine.regs machine.shared).memory)
+done_stays thread (Return answer) machine is = same_stays machine.shared.memory machine.shared.memory is refl
 
-pub step_stays : (machine : Machine) → IsApart machine.shared.memory → Stays machine.shared.memory (stepped (ticked machine)).shared.memory
+pub step_stays : (thread : ℕ) (machine : Machine) → IsApart machine.shared.memory → Stays machine.shared.memory (stepped thread (ticked machine)).shared.memory
 unfolding stepped ticked
-step_stays machine is = done_stays (row_of (ticked machine)) (ticked machine) is
+step_stays thread machine is = done_stays thread (row_of (ticked machine)) (ticked machine) is
 
-pub new_code : (old new : Machine) → IsApart old.shared.memory → new ≡ stepped (ticked old) → KeepsCode old.shared.memory new.shared.memory
-new_code old new is same = rw same (step_stays old is).code
+pub new_code : (thread : ℕ) (old new : Machine) → IsApart old.shared.memory → new ≡ stepped thread (ticked old) → KeepsCode old.shared.memory new.shared.memory
+new_code thread old new is same = rw same (step_stays thread old is).code
 
 -- ---- what is kept of every state
 
-step_sound : (machine : Machine) (known : List Known) → IsSound machine known → IsSound (stepped (ticked machine)) known
-step_sound machine known sound =
-    let stays = step_stays machine sound.apart in
+step_sound : (thread : ℕ) (machine : Machine) (known : List Known) → IsSound machine known → IsSound (stepped thread (ticked machine)) known
+step_sound thread machine known sound =
+    let stays = step_stays thread machine sound.apart in
     record {
-      keeps = step_keeps machine sound.keeps;
+      keeps = step_keeps thread machine sound.keeps;
       apart = stays.apart;
-      right = known_stays machine.shared.memory (stepped (ticked machine)).shared.memory known stays.code sound.right;
+      right = known_stays machine.shared.memory (stepped thread (ticked machine)).shared.memory known stays.code sound.right;
     }
 
 -- also after a step that may want memory and leave the state
-pub try_sound : {E : Type 0} (result : Result (Unit {0}) E) (old new : Machine) (known : List Known) → OnOk result (new ≡ stepped (ticked old)) → OnErr result (new ≡ old) → IsSound old known → IsSound new known
-try_sound (Ok done) old new known ok err sound = rw ok (step_sound old known sound)
-try_sound (Err error) old new known ok err sound = rw err sound
+pub try_sound : {E : Type 0} (result : Result (Unit {0}) E) (thread : ℕ) (old new : Machine) (known : List Known) → OnOk result (new ≡ stepped thread (ticked old)) → OnErr result (new ≡ old) → IsSound old known → IsSound new known
+try_sound (Ok done) thread old new known ok err sound = rw ok (step_sound thread old known sound)
+try_sound (Err error) thread old new known ok err sound = rw err sound

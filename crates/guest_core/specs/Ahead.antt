@@ -1,6 +1,6 @@
 -- Steps that make an instruction and nothing else.
 -- The project's own.
-use Rattle.std.specs.Prelude.{◌≡◌, None}
+use Rattle.std.specs.Prelude.{◌≡◌, ℕ, None}
 use Rattle.guest_core.specs.Machine.{Machine}
 use Rattle.guest_core.specs.Instruction.{Outcome, Runs, Calls, Faults}
 use Rattle.guest_core.specs.Rows.{Execute, row_of, instruction_of}
@@ -16,7 +16,7 @@ IsPlain (Runs regs memory held) = Unit {0}
 IsPlain Calls = ⊥
 IsPlain (Faults fault) = ⊥
 
--- the next step is such an instruction's
-pub record GoesOn (machine : Machine) : Type 0 where
+-- the thread's next step is such an instruction's
+pub record GoesOn (thread : ℕ) (machine : Machine) : Type 0 where
   pub ready : IsReady machine
-  pub plain : IsPlain (instruction_of machine)
+  pub plain : IsPlain (instruction_of thread machine)

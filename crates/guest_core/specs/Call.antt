@@ -11,7 +11,7 @@ use Rattle.guest_pages.specs.declared.fault.PageFault.{PageFault}
 use Rattle.guest_pages.specs.Faults.{first_fault, readable}
 use Rattle.guest_pages.specs.Operations.{bytes_at}
 use Rattle.word_memory.specs.Reservations.{reserving}
-use Rattle.guest_core.specs.Machine.{Shared, first_thread}
+use Rattle.guest_core.specs.Machine.{Shared}
 
 -- an answer, or the end of the process
 pub data Outcome : Type 0 where
@@ -63,14 +63,14 @@ made regs shared =
     if register regs 17 == 64 then write (register regs 10) (register regs 11) (register regs 12) shared else if register regs 17 == 94 then exit_group (register regs 10) shared else refused no_such_call shared
 
 -- a call ends the thread's reservation
-abbrev pub unreserved : Shared → Shared
-unreserved shared = record shared { held = reserving first_thread None shared.held }
+abbrev pub unreserved : ℕ → Shared → Shared
+unreserved thread shared = record shared { held = reserving thread None shared.held }
 
-abbrev pub ending : Called → Called
-ending called = record { shared = unreserved called.shared; outcome = called.outcome }
+abbrev pub ending : ℕ → Called → Called
+ending thread called = record { shared = unreserved thread called.shared; outcome = called.outcome }
 
-unfoldable pub called : Regs → Shared → Called
-called regs shared = ending (made regs shared)
+unfoldable pub called : ℕ → Regs → Shared → Called
+called thread regs shared = ending thread (made regs shared)
 
 -- an answer stands in a0, and pc behind the ecall
 unfoldable pub answered : ℤ → Regs → Regs

@@ -4,7 +4,7 @@ use Rattle.std.specs.List.{list_all, list_any}
 use Rattle.guest_core.specs.declared.places.Place.TheVariants.{Loop, Window}
 use Rattle.guest_core.specs.declared.queue.Instance.{Instance}
 use Rattle.guest_core.specs.Instruction.{instruction, Outcome}
-use Rattle.guest_core.specs.Machine.{Machine, due, first_thread}
+use Rattle.guest_core.specs.Machine.{Machine, due}
 
 abbrev pub has_id : List Instance → ℕ → Bool
 has_id instances id = list_any (λ instance. instance.id == id) instances
@@ -21,6 +21,6 @@ pub record Keeps (machine : Machine) : Type 0 where
   -- at the window the flag is clear
   pub window_clear : machine.place ≡ Window → machine.flag ≡ false
   -- at every place but the loop, pc stands at an ecall
-  pub at_call : machine.place ≢ Loop → instruction first_thread machine.regs machine.shared.memory machine.shared.held ≡ Outcome.Calls
+  pub at_call : machine.place ≢ Loop → (thread : ℕ) → instruction thread machine.regs machine.shared.memory machine.shared.held ≡ Outcome.Calls
   -- register 0 holds 0
   pub zero : slice_index machine.regs.x 0 ≡ 0

@@ -1,7 +1,7 @@
 -- A state of the emulator: what the host has, and the thread's registers, place, flag and noted signals.
 -- The project's own, after the safe system calls of QEMU's linux-user: a thread looks at a flag, stands in a short
 -- window, and then enters the host.
-use Rattle.std.specs.Prelude.{ℕ, ◌+◌, ◌-◌, ◌^◌, min, Bool, List, Option}
+use Rattle.std.specs.Prelude.{ℕ, ◌==◌, ◌+◌, ◌-◌, ◌^◌, min, Bool, List, Option}
 use Rattle.guest_core.specs.declared.ends.End.{End}
 use Rattle.guest_core.specs.declared.places.Place.{Place}
 use Rattle.guest_core.specs.declared.queue.Instance.{Instance}
@@ -35,6 +35,10 @@ pub record Machine : Type 0 where
 -- the one thread of a process
 abbrev pub first_thread : ℕ
 first_thread = 1000
+
+-- the thread lives
+abbrev pub is_live : ℕ → Bool
+is_live thread = thread == first_thread
 
 -- the pending signals that act on the thread next, in order. All are forced, so that none is blocked
 abbrev pub due : Shared → List Instance

@@ -1,13 +1,13 @@
 -- A thread's step: which row fits its state, and what each row does.
 -- The project's own, after the safe system calls of QEMU's linux-user.
-use Rattle.std.specs.Prelude.{◌==◌, true, false, not, if◌then◌else◌, ℤ, [], ◌∷◌, ◌++◌, filter, Option, Some, None}
+use Rattle.std.specs.Prelude.{ℕ, ◌==◌, true, false, not, if◌then◌else◌, ℤ, [], ◌∷◌, ◌++◌, filter, Option, Some, None}
 use Rattle.guest_core.specs.declared.places.Place.{Place}
 use Rattle.guest_core.specs.declared.places.Place.TheVariants.{Loop, Start, Window, Done}
 use Rattle.guest_core.specs.declared.queue.Instance.{Instance}
 use Rattle.guest_core.specs.Pending.{first_new, first_of, is_empty}
 use Rattle.guest_core.specs.Instruction as step
 use Rattle.guest_core.specs.Call as call
-use Rattle.guest_core.specs.Machine.{Machine, due, first_thread, later}
+use Rattle.guest_core.specs.Machine.{Machine, due, later}
 use Rattle.guest_core.specs.Signals.{forced, taken_out, end_of_taking}
 
 pub data Row : Type 0 where
@@ -78,11 +78,11 @@ after step.Outcome.Calls machine = record machine { place = Start }
 after (step.Outcome.Faults fault) machine = record machine { shared = forced fault machine.shared }
 
 -- what the thread's instruction does
-abbrev pub instruction_of : Machine → step.Outcome
-instruction_of machine = step.instruction first_thread machine.regs machine.shared.memory machine.shared.held
+abbrev pub instruction_of : ℕ → Machine → step.Outcome
+instruction_of thread machine = step.instruction thread machine.regs machine.shared.memory machine.shared.held
 
-unfoldable pub executed : Machine → Machine
-executed machine = after (instruction_of machine) machine
+unfoldable pub executed : ℕ → Machine → Machine
+executed thread machine = after (instruction_of thread machine) machine
 
 -- the check looks at the flag
 unfoldable pub checked : Machine → Machine
@@ -96,25 +96,25 @@ after_call called machine = after_outcome called.outcome (record machine { share
     after_outcome (call.Outcome.Ends end) machine = record machine { end = Some end }
 
 -- the host is entered
-unfoldable pub entered : Machine → Machine
-entered machine = after_call (call.called machine.regs machine.shared) machine
+unfoldable pub entered : ℕ → Machine → Machine
+entered thread machine = after_call (call.called thread machine.regs machine.shared) machine
 
 -- the answer reaches the registers
 unfoldable pub returned : ℤ → Machine → Machine
 returned answer machine = record machine { regs = call.answered answer machine.regs; place = Loop }
 
-abbrev pub done : Row → Machine → Machine
-done (Note instance) machine = noted instance machine
-done (Take instance) machine = taken instance machine
-done ClearFlag machine = flag_cleared machine
-done Execute machine = executed machine
-done Check machine = checked machine
-done Enter machine = entered machine
-done (Return answer) machine = returned answer machine
+abbrev pub done : ℕ → Row → Machine → Machine
+done thread (Note instance) machine = noted instance machine
+done thread (Take instance) machine = taken instance machine
+done thread ClearFlag machine = flag_cleared machine
+done thread Execute machine = executed thread machine
+done thread Check machine = checked machine
+done thread Enter machine = entered thread machine
+done thread (Return answer) machine = returned answer machine
 
 -- the row that fits is done
-unfoldable pub stepped : Machine → Machine
-stepped machine = done (row_of machine) machine
+unfoldable pub stepped : ℕ → Machine → Machine
+stepped thread machine = done thread (row_of machine) machine
 
 -- a step takes its time
 unfoldable pub ticked : Machine → Machine
@@ -122,15 +122,15 @@ ticked machine = record machine { shared = later machine.shared }
 
 -- ---- which steps take no memory
 
-abbrev pub RowIsSteady : Row → Machine → Type 0
-RowIsSteady (Note instance) machine = Unit {0}
-RowIsSteady (Take instance) machine = Unit {0}
-RowIsSteady ClearFlag machine = Unit {0}
-RowIsSteady Execute machine = step.IsFaultless (instruction_of machine)
-RowIsSteady Check machine = Unit {0}
-RowIsSteady Enter machine = ⊥
-RowIsSteady (Return answer) machine = Unit {0}
+abbrev pub RowIsSteady : ℕ → Row → Machine → Type 0
+RowIsSteady thread (Note instance) machine = Unit {0}
+RowIsSteady thread (Take instance) machine = Unit {0}
+RowIsSteady thread ClearFlag machine = Unit {0}
+RowIsSteady thread Execute machine = step.IsFaultless (instruction_of thread machine)
+RowIsSteady thread Check machine = Unit {0}
+RowIsSteady thread Enter machine = ⊥
+RowIsSteady thread (Return answer) machine = Unit {0}
 
 -- the step enters no host and meets no fault
-abbrev pub IsSteady : Machine → Type 0
-IsSteady machine = RowIsSteady (row_of machine) machine
+abbrev pub IsSteady : ℕ → Machine → Type 0
+IsSteady thread machine = RowIsSteady thread (row_of machine) machine

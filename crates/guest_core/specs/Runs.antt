@@ -3,14 +3,18 @@ use Rattle.std.specs.Prelude.{◌≡◌, ℕ, ◌+◌, ◌<◌, None, Some, List
 use Rattle.guest_core.specs.declared.machine.CoreRefusal.{CoreRefusal}
 use Rattle.guest_core.specs.declared.machine.CoreRefusal.TheVariants.{NotNow}
 use Rattle.guest_core.specs.declared.events.Event.{Event}
+use Rattle.guest_core.specs.declared.events.Event.TheVariants.{Step}
 use Rattle.guest_core.specs.Machine.{Machine}
 use Rattle.guest_core.specs.Rows.{IsSteady}
 use Rattle.guest_core.specs.Event.{event_after, run}
 
+abbrev pub EventIsSteady : Machine → Event → Type 0
+EventIsSteady machine (Step thread) = IsSteady thread machine
+
 -- the event is enabled, enters no host and meets no fault
 pub record TakesNoMemory (machine : Machine) (event : Event) : Type 0 where
   pub enabled : event_after machine event ≡ None → ⊥
-  pub steady : IsSteady machine
+  pub steady : EventIsSteady machine event
 
 -- the events before the index were made, and that at the index is refused
 pub record Stopped (old : Machine) (events : List Event) (index : ℕ) (refusal : CoreRefusal) (new : Machine) : Type 0 where

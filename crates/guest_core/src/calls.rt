@@ -6,7 +6,6 @@ ghost use Rattle.guest_core.specs.State.{shared};
 ghost use Rattle.guest_core.specs.Outcomes.{call_of};
 
 use crate::ends::End;
-use crate::machine::FIRST_THREAD;
 use crate::state::Host;
 use guest_pages::{Pages, Rights};
 use isa_exec::Regs;
@@ -43,17 +42,17 @@ pub enum Outcome {
 }
 
 impl Host {
-    /// Makes the call that the registers give. It ends the thread's reservation.
+    /// Makes the call that the thread's registers give. It ends the thread's reservation.
     ///
     /// References: write(2), exit_group(2).
     #[tactic(auto, unfolding(crate::specs::Call::called))]
-    pub fn call(&mut self, regs: &Regs) -> Result<Outcome, AllocError>
-        ensures ok { IfOk result (λ outcome. call_of outcome self.new ≡ called regs.now (shared self.old)) }
+    pub fn call(&mut self, thread: u32, regs: &Regs) -> Result<Outcome, AllocError>
+        ensures ok { IfOk result (λ outcome. call_of outcome self.new ≡ called thread regs.now (shared self.old)) }
         ensures noted { self.new.pending.noted ≡ self.old.pending.noted }
         ensures err { OnErr result (self.new ≡ self.old) }
     {
         let outcome = self.make(regs)?;
-        self.held.end(FIRST_THREAD);
+        self.held.end(thread);
         Ok(outcome)
     }
 

@@ -87,7 +87,8 @@ impl Core {
         if !self.enabled(event) {
             return Err(CoreRefusal::NotNow);
         }
-        match self.state.step() {
+        let Event::Step(thread) = *event;
+        match self.state.step(thread) {
             Ok(()) => Ok(()),
             Err(_) => Err(CoreRefusal::Memory),
         }
@@ -99,7 +100,7 @@ impl Core {
     pub fn run_on(&mut self, limit: u32) -> u32
         ensures most { result ≤ limit }
         ensures ran { run (Some self.old) (replicate result (Event.Step first_thread)) ≡ Some self.new }
-        ensures stops { result < limit → GoesOn self.new → ⊥ }
+        ensures stops { result < limit → GoesOn first_thread self.new → ⊥ }
         ensures outputs { self.new.shared.outputs ≡ self.old.shared.outputs }
         ensures end { self.new.end ≡ self.old.end }
         ensures code { KeepsCode self.old.shared.memory self.new.shared.memory }
@@ -107,7 +108,7 @@ impl Core {
         if !self.state.is_ready() {
             return 0;
         }
-        self.state.run_on(&mut self.decoder, limit)
+        self.state.run_on(FIRST_THREAD, &mut self.decoder, limit)
     }
 
     /// Makes events up to the first that is refused, whose index is told with its refusal. The state is that before

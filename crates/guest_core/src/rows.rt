@@ -1,14 +1,14 @@
 //! The rows of a thread's step, each a function.
 
-ghost use Rattle.std.specs.Prelude.{◌≡◌, ◌≢◌, ◌+◌, ◌≤◌, ◌<◌, replicate, ◌^◌, [], true, false, Some, None, OnOk, OnErr, IsOk};
+ghost use Rattle.std.specs.Prelude.{ℕ, ◌≡◌, ◌≢◌, ◌+◌, ◌≤◌, ◌<◌, replicate, ◌^◌, [], true, false, Some, None, OnOk, OnErr, IsOk};
 ghost use Rattle.std.specs.List.{All};
 ghost use Rattle.guest_core.specs.Pending.{first_new, first_of};
 ghost use Rattle.guest_core.specs.Rows.{noted, taken, flag_cleared, executed, checked, entered, returned, done, flagged_row, stepped, ticked, instruction_of, IsSteady};
 ghost use Rattle.guest_core.specs.Ahead.{IsReady, IsPlain};
 ghost use Rattle.guest_core.specs.Event.{event_after, run};
-ghost use Rattle.guest_core.specs.Machine.{first_thread};
 ghost use Rattle.guest_core.specs.State.{machine};
 ghost use Rattle.guest_core.specs.Instruction.{IsFaultless};
+ghost use Rattle.guest_core.specs.Machine.{is_live};
 ghost use Rattle.guest_core.specs.Apart.{IsApart, KeepsCode};
 ghost use Rattle.guest_core.specs.Known.{IsKnown};
 
@@ -17,7 +17,6 @@ use crate::decoder::Decoder;
 use crate::ends::End;
 use crate::events::Event;
 use crate::executing::{Made, make_instruction, make_plain};
-use crate::machine::FIRST_THREAD;
 use crate::places::Place;
 use crate::queue::{Fault, Instance};
 use crate::state::State;
@@ -82,14 +81,14 @@ impl State {
 
     /// An instruction is made, or its fault is sent. Only a fault may want memory.
     #[tactic(auto, unfolding(crate::specs::Rows::executed))]
-    fn execute(&mut self) -> Result<(), AllocError>
+    fn execute(&mut self, thread: u32) -> Result<(), AllocError>
         requires { self.old.host.pending.instances ≡ [] }
-        ensures ok { OnOk result (machine self.new ≡ executed (machine self.old)) }
+        ensures ok { OnOk result (machine self.new ≡ executed thread (machine self.old)) }
         ensures err { OnErr result (machine self.new ≡ machine self.old) }
-        ensures steady { IsFaultless (instruction_of (machine self.old)) → IsOk result }
+        ensures steady { IsFaultless (instruction_of thread (machine self.old)) → IsOk result }
     {
         match make_instruction(
-            FIRST_THREAD,
+            thread,
             &mut self.regs,
             &mut self.host.memory,
             &mut self.host.held,
@@ -128,21 +127,22 @@ impl State {
 
     /// Makes the next instruction, if it neither asks for a call nor faults; else the state stays.
     #[inline(always)]
-    fn go_on(&mut self, decoder: &mut Decoder) -> bool
+    fn go_on(&mut self, thread: u32, decoder: &mut Decoder) -> bool
+        requires live { is_live thread ≡ true }
         requires ready { IsReady (machine self.old) }
         requires apart { IsApart self.old.host.memory }
         requires known { All (IsKnown self.old.host.memory) decoder.old }
-        ensures made { result ≡ true → event_after (machine self.old) (Event.Step first_thread) ≡ Some (machine self.new) }
+        ensures made { result ≡ true → event_after (machine self.old) (Event.Step thread) ≡ Some (machine self.new) }
         ensures ready { IsReady (machine self.new) }
         ensures stays { result ≡ false → machine self.new ≡ machine self.old }
-        ensures stops { result ≡ false → IsPlain (instruction_of (machine self.old)) → ⊥ }
+        ensures stops { result ≡ false → IsPlain (instruction_of thread (machine self.old)) → ⊥ }
         ensures outputs { (machine self.new).shared.outputs ≡ (machine self.old).shared.outputs }
         ensures code { KeepsCode self.old.host.memory self.new.host.memory }
         ensures apart { IsApart self.new.host.memory }
         ensures known { All (IsKnown self.new.host.memory) decoder.new }
     {
         if !make_plain(
-            FIRST_THREAD,
+            thread,
             &mut self.regs,
             &mut self.host.memory,
             &mut self.host.held,
@@ -155,21 +155,22 @@ impl State {
     }
 
     /// Makes instructions, at most so many, up to the first that asks for a call or faults, and tells how many it made.
-    pub fn run_on(&mut self, decoder: &mut Decoder, limit: u32) -> u32
+    pub fn run_on(&mut self, thread: u32, decoder: &mut Decoder, limit: u32) -> u32
+        requires live { is_live thread ≡ true }
         requires ready { IsReady (machine self.old) }
         requires apart { IsApart self.old.host.memory }
         requires known { All (IsKnown self.old.host.memory) decoder.old }
         ensures most { result ≤ limit }
-        ensures ran { run (Some (machine self.old)) (replicate result (Event.Step first_thread)) ≡ Some (machine self.new) }
+        ensures ran { run (Some (machine self.old)) (replicate result (Event.Step thread)) ≡ Some (machine self.new) }
         ensures ready { IsReady (machine self.new) }
-        ensures stops { result < limit → IsPlain (instruction_of (machine self.new)) → ⊥ }
+        ensures stops { result < limit → IsPlain (instruction_of thread (machine self.new)) → ⊥ }
         ensures outputs { (machine self.new).shared.outputs ≡ (machine self.old).shared.outputs }
         ensures code { KeepsCode self.old.host.memory self.new.host.memory }
         ensures apart { IsApart self.new.host.memory }
         ensures known { All (IsKnown self.new.host.memory) decoder.new }
     {
         for made in 0..limit {
-            if !self.go_on(decoder) {
+            if !self.go_on(thread, decoder) {
                 return made;
             }
         }
@@ -178,11 +179,11 @@ impl State {
 
     /// The host is entered.
     #[tactic(auto, unfolding(crate::specs::Rows::entered))]
-    fn enter(&mut self) -> Result<(), AllocError>
-        ensures ok { OnOk result (machine self.new ≡ entered (machine self.old)) }
+    fn enter(&mut self, thread: u32) -> Result<(), AllocError>
+        ensures ok { OnOk result (machine self.new ≡ entered thread (machine self.old)) }
         ensures err { OnErr result (machine self.new ≡ machine self.old) }
     {
-        match self.host.call(&self.regs)? {
+        match self.host.call(thread, &self.regs)? {
             Outcome::Answer(answer) => self.place = Place::Done(answer),
             Outcome::End(end) => self.end = Some(end),
         }
@@ -199,11 +200,11 @@ impl State {
 
     /// The row that fits is done.
     #[tactic(auto, using(crate::proofs::Due::nothing_due), unfolding(crate::specs::Rows::stepped, crate::specs::Rows::row_of))]
-    fn row(&mut self) -> Result<(), AllocError>
+    fn row(&mut self, thread: u32) -> Result<(), AllocError>
         requires { self.old.flag ≡ false → self.old.host.pending.noted ≡ [] }
-        ensures ok { OnOk result (machine self.new ≡ stepped (machine self.old)) }
+        ensures ok { OnOk result (machine self.new ≡ stepped thread (machine self.old)) }
         ensures err { OnErr result (machine self.new ≡ machine self.old) }
-        ensures steady { IsSteady (machine self.old) → IsOk result }
+        ensures steady { IsSteady thread (machine self.old) → IsOk result }
     {
         if let Some(instance) = self.host.pending.first_new() {
             self.note(instance);
@@ -214,12 +215,12 @@ impl State {
                 self.take_noted();
                 Ok(())
             }
-            Place::Loop => self.execute(),
+            Place::Loop => self.execute(thread),
             Place::Start => {
                 self.check();
                 Ok(())
             }
-            Place::Window => self.enter(),
+            Place::Window => self.enter(thread),
             Place::Done(answer) => {
                 self.finish(answer);
                 Ok(())
@@ -230,7 +231,7 @@ impl State {
     /// A noted signal is taken; where none is, the flag is cleared.
     #[tactic(auto, unfolding(crate::specs::Rows::flagged_row))]
     fn take_noted(&mut self)
-        ensures { machine self.new ≡ done (flagged_row (machine self.old)) (machine self.old) }
+        ensures { (thread : ℕ) → machine self.new ≡ done thread (flagged_row (machine self.old)) (machine self.old) }
     {
         match self.host.pending.first() {
             Some(instance) if self.host.pending.any_noted() => self.take(instance),
@@ -238,17 +239,17 @@ impl State {
         }
     }
 
-    /// One step: time goes on, and the row that fits is done.
+    /// One step of the thread: time goes on, and the row that fits is done.
     #[tactic(auto, unfolding(crate::specs::Rows::ticked, crate::specs::Rows::row_of))]
-    pub fn step(&mut self) -> Result<(), AllocError>
+    pub fn step(&mut self, thread: u32) -> Result<(), AllocError>
         requires { self.old.flag ≡ false → self.old.host.pending.noted ≡ [] }
-        ensures ok { OnOk result (machine self.new ≡ stepped (ticked (machine self.old))) }
+        ensures ok { OnOk result (machine self.new ≡ stepped thread (ticked (machine self.old))) }
         ensures err { OnErr result (machine self.new ≡ machine self.old) }
-        ensures steady { IsSteady (machine self.old) → IsOk result }
+        ensures steady { IsSteady thread (machine self.old) → IsOk result }
     {
         let clock = self.host.clock;
         self.tick();
-        let done = self.row();
+        let done = self.row(thread);
         if done.is_err() {
             self.host.clock = clock;
         }

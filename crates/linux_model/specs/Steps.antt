@@ -5,7 +5,7 @@ use Rattle.std.specs.Prelude.{ℕ, ◌==◌, ◌&&◌, if◌then◌else◌, List
 use Rattle.guest_core.specs.declared.queue.Instance.{Instance}
 use Rattle.guest_core.specs.Call as call
 use Rattle.guest_core.specs.Instruction as instruction
-use Rattle.guest_core.specs.Machine.{due, first_thread, later}
+use Rattle.guest_core.specs.Machine.{due, is_live, later}
 use Rattle.guest_core.specs.Pending.{first_of, is_empty}
 use Rattle.guest_core.specs.Signals.{forced, taken_out, end_of_taking}
 use Rattle.linux_model.specs.declared.labels.Label.{Label}
@@ -30,10 +30,10 @@ call_done called process = outcome_done called.outcome (record process { shared 
     outcome_done (call.Outcome.Ends end) process = record process { end = Some end }
 
 -- at an ecall, and at nothing else, a call is made
-abbrev pub called : instruction.Outcome → ProcessState → Option ProcessState
-called instruction.Outcome.Calls process = Some (call_done (call.called process.regs process.shared) process)
-called (instruction.Outcome.Runs regs memory held) process = None
-called (instruction.Outcome.Faults fault) process = None
+abbrev pub called : ℕ → instruction.Outcome → ProcessState → Option ProcessState
+called thread instruction.Outcome.Calls process = Some (call_done (call.called thread process.regs process.shared) process)
+called thread (instruction.Outcome.Runs regs memory held) process = None
+called thread (instruction.Outcome.Faults fault) process = None
 
 -- the first due signal, and no other, is taken
 abbrev pub taken : Option Instance → ℕ → ProcessState → Option ProcessState
@@ -42,18 +42,18 @@ taken (Some instance) id process =
     if instance.id == id then Some (record process { shared = taken_out instance process.shared; end = Some (end_of_taking instance) }) else None
 
 -- what the thread's instruction does
-abbrev pub instruction_of : ProcessState → instruction.Outcome
-instruction_of process = instruction.instruction first_thread process.regs process.shared.memory process.shared.held
+abbrev pub instruction_of : ℕ → ProcessState → instruction.Outcome
+instruction_of thread process = instruction.instruction thread process.regs process.shared.memory process.shared.held
 
 -- instructions and calls wait until nothing is due
 abbrev pub allowed : Label → ProcessState → Option ProcessState
 allowed Tick process = Some (record process { shared = later process.shared })
 allowed (Instr thread) process =
-    if (thread == first_thread) && is_empty (due process.shared) then instructed (instruction_of process) process else None
+    if is_live thread && is_empty (due process.shared) then instructed (instruction_of thread process) process else None
 allowed (Call thread) process =
-    if (thread == first_thread) && is_empty (due process.shared) then called (instruction_of process) process else None
+    if is_live thread && is_empty (due process.shared) then called thread (instruction_of thread process) process else None
 allowed (Take thread id) process =
-    if thread == first_thread then taken (first_of (due process.shared)) id process else None
+    if is_live thread then taken (first_of (due process.shared)) id process else None
 
 -- the state after a label, none where it isn't allowed
 unfoldable pub step : ProcessState → Label → Option ProcessState

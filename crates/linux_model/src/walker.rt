@@ -120,7 +120,7 @@ impl Process {
                 if thread != FIRST_THREAD || !self.pending.is_empty() {
                     return Ok(false);
                 }
-                self.instruction()
+                self.instruction(thread)
             }
             Label::Call(thread) => {
                 if thread != FIRST_THREAD
@@ -129,24 +129,19 @@ impl Process {
                 {
                     return Ok(false);
                 }
-                self.call()?;
+                self.call(thread)?;
                 Ok(true)
             }
             Label::Take(thread, id) => Ok(thread == FIRST_THREAD && self.take(id)),
         }
     }
 
-    fn instruction(&mut self) -> Result<bool, AllocError>
+    fn instruction(&mut self, thread: u32) -> Result<bool, AllocError>
         ensures { IfOk result (λ made. MatchBool made
-            (instructed (instruction_of self.old) self.old ≡ Some self.new)
-            (instructed (instruction_of self.old) self.old ≡ None)) }
+            (instructed (instruction_of thread self.old) self.old ≡ Some self.new)
+            (instructed (instruction_of thread self.old) self.old ≡ None)) }
     {
-        match make_instruction(
-            FIRST_THREAD,
-            &mut self.regs,
-            &mut self.memory,
-            &mut self.held,
-        ) {
+        match make_instruction(thread, &mut self.regs, &mut self.memory, &mut self.held) {
             Ok(Made::Done) => Ok(true),
             Ok(Made::Call) => Ok(false),
             Err(fault) => {
@@ -169,13 +164,13 @@ impl Process {
     }
 
     #[tactic(auto, unfolding(guest_core::specs::Call::called, guest_core::specs::Call::made, guest_core::specs::Call::answered, guest_core::specs::Call::write))]
-    fn call(&mut self) -> Result<(), AllocError>
-        ensures { OnOk result (self.new ≡ call_done (call_of self.old.regs self.old.shared) self.old) }
+    fn call(&mut self, thread: u32) -> Result<(), AllocError>
+        ensures { OnOk result (self.new ≡ call_done (call_of thread self.old.regs self.old.shared) self.old) }
     {
         let number = self.regs.register(17);
         let first = self.regs.register(10);
         if number == 94 {
-            self.held.end(FIRST_THREAD);
+            self.held.end(thread);
             self.end = Some(End::Exit((first % 256) as u8));
             return Ok(());
         }
@@ -184,7 +179,7 @@ impl Process {
         } else {
             -ENOSYS
         };
-        self.held.end(FIRST_THREAD);
+        self.held.end(thread);
         let next = self.regs.behind(4);
         self.regs.set_register(10, answer.cast_unsigned());
         self.regs.go_on_at(next);

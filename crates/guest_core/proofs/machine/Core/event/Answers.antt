@@ -6,16 +6,16 @@ use Rattle.guest_core.proofs.machine.Core.event.Goals.{in-Ok, in-Err}
 
 pub invariant_of-self : goal.invariant_of-self
 invariant_of-self c =
-    try_sound c.step.result (machine c.self.inside.state) (machine c.step.new.self) c.self.inside.decoder c.step.ensures.ok c.step.ensures.err c.self.invariant
+    try_sound c.step.result _ (machine c.self.inside.state) (machine c.step.new.self) c.self.inside.decoder c.step.ensures.ok c.step.ensures.err c.self.invariant
 
 pub returns-clause-outputs : goal.returns-clause-outputs
 returns-clause-outputs c = elim c.match-step.branch [
-  | in-Ok w ↦ rw (w.result-is, ← c.self.view_is) (new_lengthens c.args.event.now (machine c.self.inside.state) (machine c.step.new.self) c.self.invariant.keeps w.in-Ok.ensures.ok)
+  | in-Ok w ↦ rw (w.result-is, ← c.self.view_is) (new_lengthens c.args.event.now _ (machine c.self.inside.state) (machine c.step.new.self) c.self.invariant.keeps w.in-Ok.ensures.ok)
   | in-Err w ↦ rw w.result-is tt
 ]
 
 pub returns-clause-code : goal.returns-clause-code
 returns-clause-code c = elim c.match-step.branch [
-  | in-Ok w ↦ rw (w.result-is, ← c.self.view_is) (new_code (machine c.self.inside.state) (machine c.step.new.self) c.self.invariant.apart w.in-Ok.ensures.ok)
+  | in-Ok w ↦ rw (w.result-is, ← c.self.view_is) (new_code _ (machine c.self.inside.state) (machine c.step.new.self) c.self.invariant.apart w.in-Ok.ensures.ok)
   | in-Err w ↦ rw w.result-is tt
 ]

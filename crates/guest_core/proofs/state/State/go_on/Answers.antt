@@ -1,9 +1,8 @@
 use Rattle.std.proofs.Common.{◌≡◌, List, ap, refl, subst, sym}
 use Rattle.std.specs.List.{All}
-use Rattle.guest_core.specs.Apart.{IsApart}
 use Rattle.guest_core.specs.Known.{IsKnown}
 use Rattle.guest_pages.specs.Ranges.{Range}
-use Rattle.guest_core.specs.Machine.{Machine, first_thread}
+use Rattle.guest_core.specs.Machine.{Machine}
 use Rattle.guest_core.specs.Rows.{ticked}
 use Rattle.guest_core.specs.State.{machine}
 use Rattle.guest_core.proofs.AheadFacts.{WasMade, was_made}
@@ -11,11 +10,11 @@ use Rattle.guest_core.proofs.KnownFacts.{known_stays}
 use Rattle.guest_core.proofs.SoundFacts.{Stays, instruction_stays}
 use Rattle.guest_core.proofs.state.State.go_on.Goals as goal
 
-made : (c : goal.After-tick) → WasMade (machine c.args.self.now) (machine c.tick.new.self)
-made c = was_made (machine c.args.self.now) (machine c.tick.new.self) c.make_plain.new.regs c.make_plain.new.memory c.make_plain.new.held c.requires.ready (c.if-not-make_plain.ensures.made refl) c.tick.ensures
+made : (c : goal.After-tick) → WasMade c.args.thread (machine c.args.self.now) (machine c.tick.new.self)
+made c = was_made c.args.thread (machine c.args.self.now) (machine c.tick.new.self) c.make_plain.new.regs c.make_plain.new.memory c.make_plain.new.held c.requires.live c.requires.ready (c.if-not-make_plain.ensures.made refl) c.tick.ensures
 
 stays : (c : goal.After-tick) → Stays c.args.self.now.host.memory c.make_plain.new.memory
-stays c = instruction_stays first_thread c.args.self.now.regs c.make_plain.new.regs c.args.self.now.host.memory c.make_plain.new.memory c.args.self.now.host.held c.make_plain.new.held c.requires.apart (c.if-not-make_plain.ensures.made refl)
+stays c = instruction_stays c.args.thread c.args.self.now.regs c.make_plain.new.regs c.args.self.now.host.memory c.make_plain.new.memory c.args.self.now.host.held c.make_plain.new.held c.requires.apart (c.if-not-make_plain.ensures.made refl)
 
 pub returns-clause-made : goal.returns-clause-made
 returns-clause-made c = λ is. (made c).event

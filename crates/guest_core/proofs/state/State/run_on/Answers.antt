@@ -1,15 +1,14 @@
 use Rattle.std.proofs.Common.{Some, ap, refl, ◌∙◌}
 use Rattle.guest_core.specs.declared.events.Event.TheVariants.{Step}
 use Rattle.guest_core.specs.Event.{happens}
-use Rattle.guest_core.specs.Machine.{first_thread}
 use Rattle.guest_core.specs.State.{machine}
 use Rattle.guest_core.proofs.AheadFacts.{run_more}
 use Rattle.guest_core.proofs.state.State.run_on.Goals as goal
 
 pub loop-made-preserved : goal.loop-made-preserved
 loop-made-preserved c = record {
-  ran = run_more (Some (machine c.args.self.now)) (Step first_thread) c.loop-made.made
-      ∙ ap (λ state. happens state (Step first_thread)) c.loop-made.invariant.ran
+  ran = run_more (Some (machine c.args.self.now)) (Step c.args.thread) c.loop-made.made
+      ∙ ap (λ state. happens state (Step c.args.thread)) c.loop-made.invariant.ran
       ∙ c.if-not-go_on.ensures.made refl;
   ready = c.go_on.ensures.ready;
   outputs = c.go_on.ensures.outputs ∙ c.loop-made.invariant.outputs;

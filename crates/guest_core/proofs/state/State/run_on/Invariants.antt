@@ -5,13 +5,12 @@ use Rattle.guest_core.specs.Ahead.{IsReady}
 use Rattle.guest_core.specs.Apart.{IsApart, KeepsCode}
 use Rattle.guest_core.specs.Known.{IsKnown}
 use Rattle.guest_core.specs.Event.{run}
-use Rattle.guest_core.specs.Machine.{first_thread}
 use Rattle.guest_core.specs.State.{machine}
 use Rattle.guest_core.proofs.state.State.run_on.Given as goal
 
 abbrev pub invariant-loop-made : goal.invariant-loop-made
 invariant-loop-made l = record {
-  ran : run (Some (machine l.initial.self)) (replicate l.made (Step first_thread)) ≡ Some (machine l.self);
+  ran : run (Some (machine l.initial.self)) (replicate l.made (Step l.thread)) ≡ Some (machine l.self);
   ready : IsReady (machine l.self);
   outputs : (machine l.self).shared.outputs ≡ (machine l.initial.self).shared.outputs;
   code : KeepsCode l.initial.self.host.memory l.self.host.memory;

@@ -4,4 +4,4 @@ use Rattle.guest_core.proofs.state.State.step.Goals as goal
 
 pub returns-then-is_err-clause-steady : goal.returns-then-is_err-clause-steady
 returns-then-is_err-clause-steady c = λ steady.
-    c.row-done.ensures.steady (rw c.tick.ensures (steady_ticked (machine c.args.self.now) steady))
+    c.row-done.ensures.steady (rw c.tick.ensures (steady_ticked c.args.thread (machine c.args.self.now) steady))
