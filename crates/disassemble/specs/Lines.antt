@@ -1,6 +1,7 @@
 -- The lines of the words that bytes hold.
--- Source: the RISC-V unprivileged manual, "Expanded Instruction-Length Encoding", for the order of the bytes and for the
--- two lowest bits. That a word without an instruction is written `none` is the project's own.
+-- Source: the RISC-V unprivileged manual, "Base Instruction-Length Encoding" for the two lowest bits, and "Expanded
+-- Instruction-Length Encoding" for the order of the bytes. That a word without an instruction is written `none` is the
+-- project's own.
 use Rattle.std.specs.Prelude.{ℕ, zero, suc, ◌+◌, ◌*◌, ◌/◌, ◌^◌, if◌then◌else◌, ◌==◌, List, [], ◌++◌, Option, Some, None, codes, length, slice_index}
 use Rattle.isa_decode.specs.declared.instruction.Instr.{Instr}
 use Rattle.isa_decode.specs.Fields.{bits}

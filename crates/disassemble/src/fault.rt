@@ -1,8 +1,10 @@
-ghost use Rattle.std.specs.Prelude.{◌≡◌, ◌≢◌};
+ghost use Rattle.std.specs.Prelude.{◌≡◌, ◌≢◌, ◌↔◌};
+ghost use Rattle.std.specs.IoError.{error_kind};
+ghost use Rattle.std.specs.declared.io.ErrorKind.TheVariants.{OutOfMemory};
 ghost use Rattle.disassemble.specs.declared.fault.Fault.TheVariants.{PartOfAWord, Memory};
 
 use std::alloc::AllocError;
-use std::io;
+use std::io::{self, ErrorKind};
 
 /// Why the lines were not all written.
 #[derive(Debug, Drop)]
@@ -16,10 +18,12 @@ pub enum Fault {
 }
 
 impl Fault {
-    ghost use Rattle.disassemble.specs.Faults.{status_of};
+    ghost use Rattle.disassemble.specs.Faults.{message_of, status_of};
 
     /// What standard error is told.
-    pub fn message(&self) -> &'static str {
+    pub fn message(&self) -> &'static str
+        ensures { result.now ≡ message_of self.now }
+    {
         match self {
             Fault::PartOfAWord => "disassemble: the length of the input is no multiple of 4",
             Fault::Memory => "disassemble: out of memory",
@@ -47,12 +51,13 @@ impl From<AllocError> for Fault {
     }
 }
 
+/// Want of memory exactly where the stream tells it, else a failed stream.
 impl From<io::Error> for Fault {
-    ghost from_gives = { λ _ fault. fault ≢ PartOfAWord };
+    ghost from_gives = { λ error fault. (fault ≢ PartOfAWord) × (fault ≡ Memory ↔ error_kind error ≡ OutOfMemory) };
 
     fn from(error: io::Error) -> Fault {
         match error.kind() {
-            io::ErrorKind::OutOfMemory => Fault::Memory,
+            ErrorKind::OutOfMemory => Fault::Memory,
             _ => Fault::Stream,
         }
     }

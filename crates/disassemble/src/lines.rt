@@ -11,7 +11,7 @@ use std::alloc::{AllocError, Global};
 /// The line of the word, without its end: the text of its instruction, `none` where it has none. Only the lower half of
 /// the word counts where its two lowest bits are not both set.
 ///
-/// References: the RISC-V unprivileged manual, "Expanded Instruction-Length Encoding".
+/// References: the RISC-V unprivileged manual, "Base Instruction-Length Encoding".
 pub fn line_of(alloc: Global, word: u32) -> Result<Text, AllocError>
     ensures { IfOk result (λ line. line ≡ line_text word) }
 {

@@ -9,7 +9,8 @@ use std::alloc::Global;
 use std::io::{Read, Write};
 
 /// Reads the input to its end, and then writes the line of each of its words on the output. Nothing is written where the
-/// input ends in a part of a word. Its time and its memory are in the length of the input.
+/// input ends in a part of a word, whatever the fault is. Where it doesn't, nothing is said of what was written before a
+/// fault, and it is never said when reading or writing fails. Its time and its memory are in the length of the input.
 pub fn write_listing<R: Read, W: Write>(
     alloc: Global,
     input: &mut R,
@@ -17,8 +18,9 @@ pub fn write_listing<R: Read, W: Write>(
 ) -> Result<(), Fault>
     ensures lines { OnOk result (IfSome (R.remaining input.old)
         (λ bytes. (length bytes % 4 ≡ 0) × Appends (W.contents output.old) (W.contents output.new) (lines_text bytes))) }
-    ensures part { IsErrOf result PartOfAWord → IfSome (R.remaining input.old)
-        (λ bytes. (length bytes % 4 ≢ 0) × Keeps (W.contents output.old) (W.contents output.new)) }
+    ensures part { IsErrOf result PartOfAWord → IfSome (R.remaining input.old) (λ bytes. length bytes % 4 ≢ 0) }
+    ensures untouched { IfSome (R.remaining input.old)
+        (λ bytes. length bytes % 4 ≢ 0 → Keeps (W.contents output.old) (W.contents output.new)) }
 {
     let mut bytes = Vec::new(alloc);
     input.read_to_end(&mut bytes)?;

@@ -20,6 +20,8 @@
 mod fault;
 mod lines;
 mod listing;
+#[cfg(test)]
+mod tests;
 
 use fault::Fault;
 use listing::write_listing;

@@ -2,7 +2,8 @@ ghost use Rattle.std.specs.Prelude.{◌≡◌, ◌<◌, ◌+◌, ◌%◌, ◌^�
 ghost use Rattle.isa_exec.specs.Registers.{behind, going_on_at, with_register};
 ghost use Rattle.isa_exec.specs.Registers.{register as value_of};
 
-/// The registers of a thread. Register 0 holds 0.
+/// The registers of a thread. Register 0 is to hold 0, which is no fact of the type: whoever makes them puts it there, and
+/// `set_register` keeps it.
 #[derive(Clone, Copy)]
 pub struct Regs {
     /// The address of the next instruction.

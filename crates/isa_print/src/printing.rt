@@ -13,7 +13,8 @@ use isa_decode::Instr;
 use std::alloc::{AllocError, Global};
 
 /// The text of the instruction: its name, and its operands in the order of the manual's assembly. Registers are x0 to x31
-/// and numbers are decimal; a branch or jump prints its offset, and `lui` and `auipc` their 20 bits, unsigned.
+/// and numbers are decimal; a branch or jump prints its offset, and `lui` and `auipc` their 20 bits, unsigned. It takes
+/// constant time, and memory for the text, which has at most 40 bytes. The error is want of memory.
 ///
 /// References: the RISC-V unprivileged manual, "RISC-V Assembly Programmer's Handbook".
 pub fn text_of(alloc: Global, instr: &Instr) -> Result<Text, AllocError>
