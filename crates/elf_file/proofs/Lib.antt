@@ -2,3 +2,4 @@ pub mod Faults
 pub mod BelowFacts
 pub mod PairFacts
 pub mod LoadFacts
+pub mod NamedFacts

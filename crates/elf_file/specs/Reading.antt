@@ -1,6 +1,6 @@
 -- What a file stands for: where it begins and its segments, or why it is refused.
 -- Source: System V ABI, ELF-64, "Program header".
-use Rattle.std.specs.Prelude.{ℕ, ◌≡◌, List, map, Option, Some, None, Result, Ok, Err}
+use Rattle.std.specs.Prelude.{ℕ, ◌≡◌, List, map, Option, Some, None, Result, Ok, Err, IsOk}
 use Rattle.elf_file.specs.declared.fault.ElfFault.{ElfFault}
 use Rattle.elf_file.specs.declared.fault.ElfFault.TheVariants.{Memory}
 use Rattle.elf_file.specs.declared.image.Elf.{Elf}
@@ -47,8 +47,8 @@ image elf = record {
   top = elf.top;
 }
 
--- The code gives what reading gives, unless memory runs out.
+-- The code gives what reading gives. Want of memory comes only where a file would be read.
 abbrev pub Gives : Result Elf ElfFault → Result Image ElfFault → Type 0
 Gives (Ok elf) read = read ≡ Ok (image elf)
-Gives (Err Memory) read = Unit {0}
+Gives (Err Memory) read = IsOk read
 Gives (Err fault) read = read ≡ Err fault

@@ -8,9 +8,10 @@
 //!
 //! # What the layer above knows
 //!
-//! `reading`, and the facts that the types keep: a segment lies within the addresses of programs, has no more bytes
-//! from the file than in memory, and is not both writable and executable; no page of two segments would be, and no two
-//! segments share a byte; the entry is even and can be executed; `top` is the greatest end of a segment that has a byte.
+//! `reading`, where want of memory comes only for a file that has an image; and the facts that the types keep: a segment
+//! lies within the addresses of programs, has no more bytes from the file than in memory, and is not both writable and
+//! executable; no page of two segments would be, and no two segments share a byte; the entry is even and can be executed;
+//! `top` is the greatest end of a segment that has a byte.
 //!
 //! # Sources
 //!

@@ -5,6 +5,8 @@ ghost use Rattle.std.specs.List.{list_all};
 ghost use Rattle.elf_file.specs.Reading.{image};
 ghost use Rattle.elf_file.specs.Segments.{all_pairs, shares_byte};
 ghost use Rattle.elf_file.specs.Views.{segment_image};
+ghost use Rattle.guest_pages.specs.Operations.{stored_pages};
+ghost use Rattle.segment_load.specs.Loading.{loaded};
 ghost use Rattle.segment_load.specs.Wanted.{is_stored_by as is_stored, own_pages as own_pages_of, pages_of};
 
 use crate::rights::{PAGE, last_page, touches};
@@ -24,6 +26,11 @@ pub fn wanted_pages(elf: &Elf) -> u64
     }
     wanted
 }
+
+/// The memory that `load` makes of a file stores as many pages as `wanted_pages` counts. It does nothing.
+pub fn laws(elf: &Elf)
+    ensures { stored_pages (loaded (image elf.now).segments) ≡ pages_of (image elf.now).segments }
+{}
 
 /// How many pages the segment at a place stores that no later one does.
 fn own_pages_at(segments: &[Segment], place: usize) -> u64

@@ -9,7 +9,8 @@
 //! # What the layer above knows
 //!
 //! `load` makes that memory, and nothing else but want of memory is answered. `wanted_pages` tells how many pages the
-//! segments store: each page of a segment that has a right, once.
+//! segments store: each page of a segment that has a right, once. `laws` says that the memory stores exactly these. While it
+//! is made no more are stored: a page that has no right in the end has none from the first.
 //!
 //! # Sources
 //!
@@ -20,7 +21,7 @@ mod counting;
 mod loading;
 mod rights;
 
-pub use counting::wanted_pages;
+pub use counting::{laws, wanted_pages};
 pub use loading::load;
 
 #[cfg(test)]

@@ -11,7 +11,8 @@ use guest_pages::Rights;
 /// The bytes of a page.
 pub(crate) const PAGE: u64 = 4096;
 
-const NOTHING: Rights = Rights {
+/// No right.
+pub(crate) const NOTHING: Rights = Rights {
     read: false,
     write: false,
     execute: false,

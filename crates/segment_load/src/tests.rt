@@ -490,6 +490,32 @@ fn a_page_without_rights_is_mapped(rt: HostRuntime) -> Result<(), Fail> {
 }
 
 #[test]
+fn pages_without_rights_take_no_room(rt: HostRuntime) -> Result<(), Fail> {
+    // 65,536 pages have no right. The bytes of their segment are in the page before them, which another one can read
+    let shared = filled(READ, 0x1000_0000, 0x800, 0, 2);
+    let bare = filled(0, 0x1000_0800, 0x1000_0800, 2, 4);
+    let none = rights(false, false, false);
+    for parts in [[shared, bare, note()], [bare, note(), shared]] {
+        let elf = elf_of(rt.alloc(), 2, parts, &[1, 2, 3, 4, 5, 6])?;
+        let pages = load(rt.alloc(), &elf)?;
+        assert_eq!(rt; pages.load(0x1000_0800, Width::Four), Ok(0x0605_0403));
+        let given = [
+            (0x1000_0000, Some(rights(true, false, false))),
+            (0x1000_1000, Some(none)),
+            (0x2000_0000, Some(none)),
+            (0x2000_1000, None),
+        ];
+        for (at, page) in given {
+            assert_eq!(rt; rights_of_page(&pages, at), page, "{at}");
+        }
+        // the shared page, and that of the code
+        assert_eq!(rt; wanted_pages(&elf), 2);
+        laws(&elf);
+    }
+    Ok(())
+}
+
+#[test]
 fn a_file_of_type_3_is_loaded_above_its_base(rt: HostRuntime) -> Result<(), Fail> {
     let parts = [
         filled(READ, 0, 0x1000, 0, 2),

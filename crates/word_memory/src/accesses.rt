@@ -29,8 +29,11 @@ const CHANGEABLE: Rights = Rights {
     execute: false,
 };
 
-/// An atomic operation of the thread on the word or doubleword at an address: the old value is answered, a word
-/// sign-extended, and the operation's result stored. It takes no memory.
+/// An atomic operation of the thread on the word of 4 bytes at the byte address `at`, or where it is `wide` on the
+/// doubleword of 8: the old value is answered, a word sign-extended, and the operation's result stored. Of a word, only the
+/// lowest 32 bits of `value` count. The reservations of other threads that the bytes touch end. It is refused as
+/// `Misaligned` where `at` is no multiple of the number of bytes, and then with the least of their addresses that isn't
+/// mapped, or can't be both read and written; then nothing changes. It costs by the number of threads, and takes no memory.
 ///
 /// References: the RISC-V unprivileged manual, "Atomic Memory Operations".
 #[tactic(auto, using(crate::proofs::FaultFacts::readable_too, crate::proofs::FaultFacts::writable_too))]
@@ -60,7 +63,10 @@ pub fn amo(
     }
 }
 
-/// The value at an address, a word sign-extended; the thread reserves its doubleword. It takes no memory.
+/// The word of 4 bytes at the byte address `at`, sign-extended, or where it is `wide` the doubleword of 8; the thread
+/// reserves the aligned doubleword that it is in. It is refused as `Misaligned` where `at` is no multiple of the number of
+/// bytes, and then with the least of their addresses that isn't mapped or can't be read; then nothing changes. It costs by
+/// the number of threads, and takes no memory.
 ///
 /// References: the RISC-V unprivileged manual, "Load-Reserved/Store-Conditional Instructions".
 pub fn load_reserved(
@@ -84,8 +90,11 @@ pub fn load_reserved(
     }
 }
 
-/// The value is stored exactly where the thread's reservation of the doubleword stands; whether it was. The reservation
-/// ends in both cases. It takes no memory.
+/// The lowest 4 bytes of the value, or where it is `wide` all 8, are stored at the byte address `at` exactly where the
+/// thread's reservation of the aligned doubleword stands; whether they were. The reservation ends in both cases, and after
+/// a store those of other threads that the bytes touch. It is refused as `Misaligned` where `at` is no multiple of the
+/// number of bytes, and then with the least of their addresses that isn't mapped or can't be written, also where nothing
+/// would be stored; then nothing changes. It costs by the number of threads, and takes no memory.
 ///
 /// References: the RISC-V unprivileged manual, "Load-Reserved/Store-Conditional Instructions".
 pub fn store_conditional(

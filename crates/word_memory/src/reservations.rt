@@ -44,7 +44,7 @@ impl Reservations {
         }
     }
 
-    /// A thread joins, without a reservation.
+    /// A thread that isn't among them joins, without a reservation. Where memory is wanting, it doesn't.
     #[tactic(auto, using(crate::proofs::QuietFacts::joined_any), unfolding(crate::specs::Reservations::joined))]
     pub fn add_thread(&mut self, thread: u32) -> Result<(), AllocError>
         requires { is_there thread self.old ≡ false }

@@ -9,5 +9,5 @@ segments-preserved c =
     let next = image_before c.args.segments.now c.segments.left c.index-segments-left.result (omega arith) c.segments.invariant.few c.index-segments-left.is in
     record {
       few = omega (arith, c.segments.invariant.few);
-      filled = filled_more all (drop (c.segments.left - 1) all) (drop c.segments.left all) (segment_image c.index-segments-left.result) c.segments.memory c.fill_one.new.memory next c.in-Ok.ensures c.segments.invariant.filled;
+      filled = filled_more all (drop (c.segments.left - 1) all) (drop c.segments.left all) (segment_image c.index-segments-left.result) c.segments.memory c.fill_one.new.memory next c.fill_one.ensures c.segments.invariant.filled;
     }

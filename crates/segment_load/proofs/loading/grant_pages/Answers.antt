@@ -1,18 +1,15 @@
-use Rattle.std.proofs.Common.{map, ap, sym, ◌∙◌, ◌+◌, ◌*◌}
+use Rattle.std.proofs.Common.{map, ap, ◌∙◌, ◌+◌, ◌*◌}
 use Rattle.elf_file.specs.Views.{segment_image}
 use Rattle.guest_pages.specs.declared.rights.Rights.{Rights}
 use Rattle.guest_pages.specs.Operations.{protected}
 use Rattle.segment_load.specs.Steps.{granted}
-use Rattle.segment_load.proofs.CellFacts.{has_same}
-use Rattle.segment_load.proofs.StepFacts.{granted_more, granted_none, ok_is}
+use Rattle.segment_load.proofs.StepFacts.{granted_more, has_unchanged, ok_is}
 use Rattle.segment_load.proofs.loading.grant_pages.Goals as goal
 
 pub loop-done-init : goal.loop-done-init
-loop-done-init c =
-    let all = map segment_image c.args.segments.now in
-    record {
-      granted = λ f has. has_same f (granted all c.args.first 0 f) c.args.memory.now has (λ a. sym (granted_none all c.args.first f a));
-    }
+loop-done-init c = record {
+  granted = λ f has. has_unchanged (granted (map segment_image c.args.segments.now)) c.args.first f c.args.memory.now has;
+}
 
 pub loop-done-preserved : goal.loop-done-preserved
 loop-done-preserved c =

@@ -1,10 +1,10 @@
 use Rattle.std.proofs.Common.{ℕ, map, Option}
 use Rattle.elf_file.specs.Views.{segment_image}
 use Rattle.guest_pages.specs.Cells.{Cell}
-use Rattle.segment_load.specs.Steps.{Has, granted}
+use Rattle.segment_load.specs.Steps.{Has, granted, on_pages}
 use Rattle.segment_load.proofs.loading.grant_pages.Given as goal
 
 abbrev pub invariant-loop-done : goal.invariant-loop-done
 invariant-loop-done l = record {
-  granted : (f : ℕ → Option Cell) → Has f l.initial.memory → Has (granted (map segment_image l.segments) l.first l.done f) l.memory;
+  granted : (f : ℕ → Option Cell) → Has f l.initial.memory → Has (on_pages (granted (map segment_image l.segments)) l.first l.done f) l.memory;
 }

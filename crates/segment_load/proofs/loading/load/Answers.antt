@@ -8,4 +8,4 @@ use Rattle.segment_load.proofs.loading.load.Goals as goal
 pub grant_all-requires : goal.grant_all-requires
 grant_all-requires c =
     let all = map segment_image c.as_slice-segments.result.now in
-    has_same (filled_by all all) (granted_by all []) c.fill_all.new.memory c.in_ok-fill_all.ensures (rights_later all)
+    has_same (filled_by all all) (granted_by all []) c.fill_all.new.memory c.fill_all.ensures (rights_later all)
