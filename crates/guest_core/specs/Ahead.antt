@@ -1,7 +1,9 @@
 -- Steps that make an instruction and nothing else.
 -- The project's own.
-use Rattle.std.specs.Prelude.{◌≡◌, None}
-use Rattle.guest_core.specs.Machine.{Machine}
+use Rattle.std.specs.Prelude.{◌≡◌, ◌<◌, ℕ, Some, None, replicate}
+use Rattle.guest_core.specs.declared.events.Event.TheVariants.{Step}
+use Rattle.guest_core.specs.Event.{run}
+use Rattle.guest_core.specs.Machine.{Machine, first_thread}
 use Rattle.guest_core.specs.Instruction.{Outcome, Runs, Calls, Faults}
 use Rattle.guest_core.specs.Rows.{Execute, row_of, instruction_of}
 
@@ -20,3 +22,8 @@ IsPlain (Faults fault) = ⊥
 pub record GoesOn (machine : Machine) : Type 0 where
   pub ready : IsReady machine
   pub plain : IsPlain (instruction_of machine)
+
+-- each of so many next steps is such an instruction's
+abbrev pub AllGoOn : Machine → ℕ → Type 0
+AllGoOn machine count =
+    (k : ℕ) (before : Machine) → k < count → run (Some machine) (replicate k (Step first_thread)) ≡ Some before → GoesOn before
