@@ -213,6 +213,7 @@ fn cause_of(fault: StartFault) -> Cause
 fn untouched<D: Device>(alloc: Global, cause: Cause, devices: Vec<D>) -> TopFault<D>
     ensures cause { result.cause ≡ cause }
     ensures journal { result.journal.events ≡ [] }
+    ensures budget { result.journal.budget ≡ 0 }
     ensures devices { result.devices ≡ devices }
 {
     TopFault {
