@@ -2,7 +2,7 @@
 use Rattle.std.proofs.Common.{◌≡◌, ℕ, zero, suc, ◌<◌, ◌≤◌, List, [], ◌∷◌, Option, None, Result, Ok, Err, OnOk, OnErr, map, length, take, get_or, set, slice_index, refl, ap, sym, ◌∙◌, arith}
 use Rattle.std.proofs.lemmas.List.{map-set}
 use Rattle.emu_top.specs.Told.{more, Rose, HoldsBeginning}
-use Rattle.emu_top.specs.Sending.{NoneFell}
+use Rattle.emu_top.specs.Sending.{AreUnread, NoneFell}
 
 -- what is found in a mapped list
 pub map_at : {D X : Type 0} (f : D → X) (devices : List D) (place : ℕ) (device : D) (other : X) → place < length devices → device ≡ get_or devices place device → get_or (map f devices) place other ≡ f device
@@ -40,3 +40,24 @@ pub rose_at : {D E : Type 0} (writes : D → ℕ) (result : Result (Unit {0}) E)
 rose_at writes (Ok done) devices place device new within is rose = rose
 rose_at writes (Err error) devices place device new within is rose =
     rw (map_at writes devices place device 0 within is, set_at writes devices place new 0 within) rose
+
+same_set : {D X : Type 0} (f : D → X) (devices : List D) (place : ℕ) (device new : D) → device ≡ get_or devices place device → f new ≡ f device → map f (set devices place new) ≡ map f devices
+same_set f [] place device new is same = refl
+same_set f (first ∷ devices) zero device new is same = ap (λ x. x ∷ map f devices) (same ∙ ap f is)
+same_set f (first ∷ devices) (suc place) device new is same = ap (λ rest. f first ∷ rest) (same_set f devices place device new is same)
+
+-- a device that was written wasn't read
+pub unread_at : {D : Type 0} (left : D → Option (List ℕ)) (reads : D → ℕ) (devices : List D) (place : ℕ) (device new : D) → device ≡ get_or devices place device → left new ≡ left device → reads new ≡ reads device → AreUnread left reads devices (set devices place new)
+unread_at left reads devices place device new is same_left same_reads = record {
+  same_left = same_set left devices place device new is same_left;
+  same_reads = same_set reads devices place device new is same_reads;
+}
+
+pub unread_still : {D : Type 0} (left : D → Option (List ℕ)) (reads : D → ℕ) (devices after : List D) → after ≡ devices → AreUnread left reads devices after
+unread_still left reads devices after same = record { same_left = ap (map left) same; same_reads = ap (map reads) same }
+
+pub unread_on : {D : Type 0} (left : D → Option (List ℕ)) (reads : D → ℕ) (first now next : List D) → AreUnread left reads first now → AreUnread left reads now next → AreUnread left reads first next
+unread_on left reads first now next before after = record {
+  same_left = after.same_left ∙ before.same_left;
+  same_reads = after.same_reads ∙ before.same_reads;
+}

@@ -1,6 +1,6 @@
 -- A folder, as far as it tells what it holds.
 -- The project's own.
-use Rattle.std.specs.Prelude.{◌≡◌, ◌⊎◌, ℕ, zero, suc, List, [], ◌∷◌, map, Option, Some, None, Result, Err, ◌≤◌, length}
+use Rattle.std.specs.Prelude.{◌≡◌, ◌⊎◌, ℕ, zero, suc, List, [], ◌∷◌, map, Option, Some, None, Result, Err, OnOk, ◌≤◌, length}
 use Rattle.emu_top.specs.declared.folder.FolderError.{FolderError}
 use Rattle.emu_top.specs.declared.folder.FolderError.TheVariants.{Failed}
 use Rattle.emu_top.specs.Told.{Rose}
@@ -32,10 +32,12 @@ abbrev pub Reads : Option (List Entry) → List ℕ → List ℕ → Type 0
 Reads None path bytes = Unit {0}
 Reads (Some entries) path bytes = IsFileOf entries path bytes
 
--- a count never falls, and the call failed only where it rose; want of memory is free
+-- A count never falls, the call failed only where it rose, and it stands still where the call was made; want of memory is
+-- free.
 pub record FailsBy {T : Type 0} (before after : ℕ) (result : Result T FolderError) : Type 0 where
   pub later : before ≤ after
   pub failed : result ≡ Err Failed → Rose before after
+  pub still : OnOk result (after ≡ before)
 
 -- a file of the path stands at that place
 abbrev pub StandsAt : List Entry → List ℕ → ℕ → Type 0

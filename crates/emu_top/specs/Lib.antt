@@ -9,3 +9,4 @@ pub mod View
 pub mod Labels
 pub mod Notes
 pub mod Complete
+pub mod Streams

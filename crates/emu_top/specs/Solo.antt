@@ -115,9 +115,10 @@ CoreStops held writes core budget before (halts.Device device) journal after =
 CoreStops held writes core budget before halts.Memory journal after =
     (last : Machine) × RunsFrom core budget journal last × (map held after ≡ sent (map held before) last.shared.outputs)
 
--- nothing was started
+-- nothing was started, and the journal is that of no run: the words may have given no budget
 pub record Untouched {D : Type 0} (before : List D) (journal : History) (after : List D) : Type 0 where
   pub no_event : journal.events ≡ []
+  pub no_budget : journal.budget ≡ 0
   pub devices : after ≡ before
 
 -- a run that a device stopped: it holds a beginning of its output, and each other device all of its own

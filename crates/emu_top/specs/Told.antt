@@ -1,6 +1,6 @@
 -- What an object outside the program tells of itself, and how a fault of it shows.
 -- The project's own.
-use Rattle.std.specs.Prelude.{◌≡◌, ℕ, ◌+◌, ◌-◌, ◌^◌, ◌≤◌, min, List, [], ◌++◌, length, take, drop, Option, Some, None, Result, OnErr}
+use Rattle.std.specs.Prelude.{◌≡◌, ℕ, ◌+◌, ◌-◌, ◌^◌, ◌≤◌, min, List, [], ◌++◌, length, take, drop, Option, Some, None, Result, OnErr, OnOk}
 
 -- bytes behind what is held, where that is told
 abbrev pub more : Option (List ℕ) → List ℕ → Option (List ℕ)
@@ -11,10 +11,11 @@ more (Some held) bytes = Some (held ++ bytes)
 abbrev pub Rose : ℕ → ℕ → Type 0
 Rose before after = min (before + 1) (2 ^ 64 - 1) ≤ after
 
--- a count never falls, and an error comes only where it rose
+-- a count never falls, an error comes only where it rose, and it stands still where there is none
 pub record HasCause {T E : Type 0} (before after : ℕ) (result : Result T E) : Type 0 where
   pub later : before ≤ after
   pub failed : OnErr result (Rose before after)
+  pub still : OnOk result (after ≡ before)
 
 -- held is what was held before with a beginning of the bytes
 abbrev pub HoldsBeginning : Option (List ℕ) → List ℕ → Option (List ℕ) → Type 0

@@ -18,7 +18,8 @@
 //! words and the folder's file give (`specs/Solo.antt`).
 #![tactic(auto)]
 
-ghost use Rattle.std.specs.Prelude.{◌≡◌, length, IfOk};
+ghost use Rattle.std.specs.Prelude.{◌≡◌, ◌∷◌, [], length, IfOk};
+ghost use Rattle.emu_top.specs.Streams.{descriptors};
 
 mod cause;
 mod device;
@@ -97,7 +98,8 @@ fn run(rt: &HostRuntime, words: &[String]) -> Result<u8, AllocError> {
 
 /// Standard input, output and error, for the descriptors 0, 1 and 2.
 fn devices(rt: &HostRuntime, alloc: Global) -> Result<Vec<StreamDevice>, AllocError>
-    ensures { IfOk result (λ devices. length devices.items ≡ 3) }
+    ensures count { IfOk result (λ devices. length devices.items ≡ 3) }
+    ensures streams { IfOk result (λ devices. descriptors devices.items ≡ 0 ∷ 1 ∷ 2 ∷ []) }
 {
     let mut devices = Vec::new(alloc);
     devices.push(StreamDevice::new(Stream::Input(rt.stdin())))?;

@@ -1,12 +1,14 @@
 //! A folder of the file system. It tells nothing of what it holds.
 
-ghost use Rattle.std.specs.Prelude.{None, ◌≡◌, ◌++◌, List, ℕ, OnOk};
+ghost use Rattle.std.specs.Prelude.{None, ◌≡◌, ◌↔◌, ◌++◌, List, ℕ, OnOk};
+ghost use Rattle.std.specs.IoError.{error_kind};
+ghost use Rattle.std.specs.declared.io.ErrorKind.TheVariants.{OutOfMemory};
 
 use crate::folder::{Folder, FolderError, Kind, Listed};
 use file_tree::Text;
 use std::alloc::{AllocError, Global};
 use std::fs::{self, Metadata};
-use std::io;
+use std::io::{self, ErrorKind};
 use std::rt::Files;
 
 /// A folder of the file system, by its path.
@@ -55,9 +57,11 @@ impl<R: Files + AllocGlobal + Clone + Drop> Folder for RealFolder<R> {
     }
 }
 
-fn error_of(error: &io::Error) -> FolderError {
+fn error_of(error: &io::Error) -> FolderError
+    ensures { result ≡ FolderError.Memory ↔ error_kind error.now ≡ OutOfMemory }
+{
     match error.kind() {
-        io::ErrorKind::OutOfMemory => FolderError::Memory,
+        ErrorKind::OutOfMemory => FolderError::Memory,
         _ => FolderError::Failed,
     }
 }

@@ -5,7 +5,7 @@ ghost use Rattle.guest_core.specs.Event.{event_after};
 ghost use Rattle.guest_core.specs.Machine.{first_thread};
 ghost use Rattle.guest_core.specs.Growth.{lengthens, Lengthened};
 ghost use Rattle.emu_top.specs.Told.{more, Rose};
-ghost use Rattle.emu_top.specs.Sending.{NoneFell};
+ghost use Rattle.emu_top.specs.Sending.{AreUnread, NoneFell};
 ghost use Rattle.emu_top.specs.Running.{WentAhead, Stepped, KeepsSent, Halted, Ended, Stopped};
 
 use crate::device::{Device, DeviceFailed};
@@ -60,6 +60,7 @@ fn send<D: Device>(devices: &mut Vec<D>, device: usize, bytes: &[u8]) -> Result<
     ensures none_fell { NoneFell (map D.failed_writes devices.old.items) (map D.failed_writes devices.new.items) }
     ensures rose { OnErr result (Rose (slice_index (map D.failed_writes devices.old.items) device) (slice_index (map D.failed_writes devices.new.items) device)) }
     ensures count { length devices.new.items ≡ length devices.old.items }
+    ensures unread { AreUnread D.left D.failed_reads devices.old.items devices.new.items }
 {
     devices[device].take(bytes)
 }
@@ -88,6 +89,7 @@ fn turn<D: Device>(run: &mut Run<D>) -> Result<(), Halt>
     ensures devices { length run.new.devices.items ≡ length run.old.devices.items }
     ensures outputs { length run.new.core.shared.outputs ≡ length run.old.core.shared.outputs }
     ensures budget { run.new.journal.budget ≡ run.old.journal.budget }
+    ensures unread { AreUnread D.left D.failed_reads run.old.devices.items run.new.devices.items }
 {
     match run.core.lengthens(&Event::Step(FIRST_THREAD)) {
         None => match advance(&mut run.core, &mut run.journal) {
@@ -116,6 +118,7 @@ pub fn run_to_end<D: Device>(run: &mut Run<D>) -> Result<End, Halt>
     ensures stopped { IfErr result (λ halt. Stopped D.held D.failed_writes halt run.old run.new) }
     ensures none_fell { NoneFell (map D.failed_writes run.old.devices.items) (map D.failed_writes run.new.devices.items) }
     ensures devices { length run.new.devices.items ≡ length run.old.devices.items }
+    ensures unread { AreUnread D.left D.failed_reads run.old.devices.items run.new.devices.items }
 {
     for _ in 0..run.journal.budget() {
         if let Some(end) = run.core.ended() {

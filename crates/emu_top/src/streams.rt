@@ -1,6 +1,6 @@
 //! The standard streams as devices and as a sink. They tell nothing of what they hold or have left.
 
-ghost use Rattle.std.specs.Prelude.{None, ◌≤◌, IfOk, length};
+ghost use Rattle.std.specs.Prelude.{None, ◌≡◌, ◌≤◌, IfOk, length};
 
 use crate::device::{Device, DeviceFailed};
 use crate::sink::{Sink, SinkFailed};
@@ -23,7 +23,9 @@ pub struct StreamDevice {
 }
 
 impl StreamDevice {
-    pub fn new(stream: Stream) -> StreamDevice {
+    pub fn new(stream: Stream) -> StreamDevice
+        ensures { result.stream ≡ stream }
+    {
         StreamDevice {
             stream,
             failed_reads: 0,

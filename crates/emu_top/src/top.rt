@@ -1,8 +1,8 @@
 //! The top call of `solo`.
 
-ghost use Rattle.std.specs.Prelude.{◌≡◌, ◌≤◌, ◌<◌, [], map, length, Ok, Err, IfOk, IfErr};
+ghost use Rattle.std.specs.Prelude.{◌≡◌, ◌≤◌, ◌<◌, [], map, length, Ok, Err, IfOk, IfErr, MatchResult};
 ghost use Rattle.std.specs.String.{string_bytes};
-ghost use Rattle.emu_top.specs.Sending.{sent};
+ghost use Rattle.emu_top.specs.Sending.{AreUnread, sent};
 ghost use Rattle.emu_top.specs.Complete.{IsRunnable, NoneRose};
 ghost use Rattle.elf_file.specs.Reading.{image};
 ghost use Rattle.guest_core.specs.Start.{program_of, Starts};
@@ -74,6 +74,10 @@ pub fn solo_top<F: Folder, K: Sink, D: Device>(
     ensures caused { IfErr result (λ f. Faults D.held D.failed_writes K.held K.failed_writes (F.tree folder.old) (F.failed_reads folder.old) (F.failed_reads folder.new) (map string_bytes words.now) devices.items notes.old notes.new f.cause f.journal f.devices.items) }
     // Where the words name a file of the folder that starts, and no count rose, only want of memory is left.
     ensures complete { IfErr result (λ f. IsRunnable (F.tree folder.old) (map string_bytes words.now) → NoneRose D.failed_writes K.failed_writes (F.failed_reads folder.old) (F.failed_reads folder.new) devices.items f.devices.items notes.old notes.new → f.cause ≡ memory) }
+    // Nothing is read of the devices.
+    ensures unread { MatchResult result
+        (λ f. AreUnread D.left D.failed_reads devices.items f.devices.items)
+        (λ f. AreUnread D.left D.failed_reads devices.items f.devices.items) }
     ensures folder { F.tree folder.new ≡ F.tree folder.old }
 {
     match attempt(alloc, words, folder, devices) {
@@ -167,6 +171,9 @@ fn attempt<F: Folder, D: Device>(
     requires { length devices.items ≤ 8 }
     ensures finished { IfOk result (λ f. Finishes D.held (F.tree folder.old) (map string_bytes words.now) devices.items f.end f.status f.journal f.devices.items) }
     ensures caused { IfErr result (λ f. IsCaused D.held D.failed_writes (F.tree folder.old) (F.failed_reads folder.old) (F.failed_reads folder.new) (map string_bytes words.now) devices.items f.cause f.journal f.devices.items) }
+    ensures unread { MatchResult result
+        (λ f. AreUnread D.left D.failed_reads devices.items f.devices.items)
+        (λ f. AreUnread D.left D.failed_reads devices.items f.devices.items) }
     ensures folder { F.tree folder.new ≡ F.tree folder.old }
 {
     let launch = match prepare(alloc, words, folder) {
@@ -213,6 +220,7 @@ fn cause_of(fault: StartFault) -> Cause
 fn untouched<D: Device>(alloc: Global, cause: Cause, devices: Vec<D>) -> TopFault<D>
     ensures cause { result.cause ≡ cause }
     ensures journal { result.journal.events ≡ [] }
+    ensures budget { result.journal.budget ≡ 0 }
     ensures devices { result.devices ≡ devices }
 {
     TopFault {
@@ -255,6 +263,9 @@ fn execute<D: Device>(
     requires quiet { map D.held devices.items ≡ sent (map D.held devices.items) core.shared.outputs }
     ensures finished { IfOk result (λ f. CoreFinishes D.held core budget devices.items f.end f.status f.journal f.devices.items) }
     ensures stopped { IfErr result (λ f. CoreStops D.held D.failed_writes core budget devices.items f.halt f.journal f.devices.items) }
+    ensures unread { MatchResult result
+        (λ f. AreUnread D.left D.failed_reads devices.items f.devices.items)
+        (λ f. AreUnread D.left D.failed_reads devices.items f.devices.items) }
 {
     let mut run = Run {
         core,

@@ -1,6 +1,7 @@
 -- Steps that make an instruction and nothing else.
-use Rattle.std.proofs.Common.{◌≡◌, ℕ, zero, suc, ◌+◌, Bool, true, false, cond, List, [], ◌∷◌, Option, Some, None, replicate, refl, ap, sym, subst, ◌∙◌}
+use Rattle.std.proofs.Common.{◌≡◌, ℕ, zero, suc, ◌+◌, inl, inr, arith, Bool, true, false, cond, List, [], ◌∷◌, Option, Some, None, replicate, refl, ap, sym, subst, ◌∙◌}
 use Rattle.std.proofs.Math.Numerals.{suc-eq-add-one}
+use Rattle.std.proofs.lemmas.Bool.{cases_lt}
 use Rattle.isa_exec.specs.declared.registers.Regs.{Regs}
 use Rattle.guest_pages.specs.Ranges.{Range}
 use Rattle.word_memory.specs.declared.reservations.Held.{Held}
@@ -15,7 +16,7 @@ use Rattle.guest_core.specs.Pending.{first_new, first_of, is_empty}
 use Rattle.guest_core.specs.Rows.{Row, Execute, ClearFlag, note_or, take_or, row_at, row_of, flagged_row, done, executed, after, instruction_of, stepped, ticked}
 use Rattle.guest_core.specs.Event.{event_after, happens, is_enabled, run}
 use Rattle.guest_core.specs.Kept.{Keeps}
-use Rattle.guest_core.specs.Ahead.{IsReady}
+use Rattle.guest_core.specs.Ahead.{AllGoOn, GoesOn, IsReady}
 use Rattle.guest_core.proofs.Due.{row_of_ticked}
 use Rattle.guest_core.proofs.KeptFacts.{step_keeps}
 
@@ -139,3 +140,16 @@ run_keeps_from None machine next event events rest keeps is ran = let none : Non
 pub run_keeps : (events : List Event) (machine next : Machine) → Keeps machine → run (Some machine) events ≡ Some next → Keeps next
 run_keeps [] machine next keeps ran = let same : machine ≡ next = cc in subst Keeps same keeps
 run_keeps (event ∷ events) machine next keeps ran = run_keeps_from (event_after machine event) machine next event events (λ now. run_keeps events now next) keeps refl ran
+
+some_same : (one other : Machine) → Some one ≡ Some other → one ≡ other
+some_same one other same = cc
+
+-- one more step that is an instruction's
+pub all_more : (thread : ℕ) (machine now : Machine) (made : ℕ) → AllGoOn thread machine made → run (Some machine) (replicate made (Step thread)) ≡ Some now → GoesOn thread now → AllGoOn thread machine (made + 1)
+all_more thread machine now made all ran goes k before within is = elim (cases_lt k made) [
+  | inl less ↦ all k before less is
+  | inr most ↦
+      let last : k ≡ made = omega (arith, within, most) in
+      let now_is : Some before ≡ Some now = sym is ∙ ap (λ (n : ℕ). run (Some machine) (replicate n (Step thread))) last ∙ ran in
+      subst (GoesOn thread) (sym (some_same before now now_is)) goes
+]

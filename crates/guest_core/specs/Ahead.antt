@@ -1,6 +1,8 @@
 -- Steps that make an instruction and nothing else.
 -- The project's own.
-use Rattle.std.specs.Prelude.{◌≡◌, ℕ, None}
+use Rattle.std.specs.Prelude.{◌≡◌, ◌<◌, ℕ, Some, None, replicate}
+use Rattle.guest_core.specs.declared.events.Event.TheVariants.{Step}
+use Rattle.guest_core.specs.Event.{run}
 use Rattle.guest_core.specs.Machine.{Machine}
 use Rattle.guest_core.specs.Instruction.{Outcome, Runs, Calls, Faults}
 use Rattle.guest_core.specs.Rows.{Execute, row_of, instruction_of}
@@ -20,3 +22,8 @@ IsPlain (Faults fault) = ⊥
 pub record GoesOn (thread : ℕ) (machine : Machine) : Type 0 where
   pub ready : IsReady machine
   pub plain : IsPlain (instruction_of thread machine)
+
+-- each of so many next steps is such an instruction's
+abbrev pub AllGoOn : ℕ → Machine → ℕ → Type 0
+AllGoOn thread machine count =
+    (k : ℕ) (before : Machine) → k < count → run (Some machine) (replicate k (Step thread)) ≡ Some before → GoesOn thread before

@@ -1,10 +1,11 @@
 -- A thread's step: which row fits its state, and what each row does.
 -- The project's own, after the safe system calls of QEMU's linux-user.
-use Rattle.std.specs.Prelude.{ℕ, ◌==◌, true, false, not, if◌then◌else◌, ℤ, [], ◌∷◌, ◌++◌, filter, Option, Some, None}
+use Rattle.std.specs.Prelude.{ℕ, ◌≢◌, ◌⊎◌, ◌+◌, ◌<◌, ◌^◌, ◌==◌, true, false, not, if◌then◌else◌, ℤ, [], ◌∷◌, ◌++◌, filter, Option, Some, None}
 use Rattle.guest_core.specs.declared.places.Place.{Place}
 use Rattle.guest_core.specs.declared.places.Place.TheVariants.{Loop, Start, Window, Done}
 use Rattle.guest_core.specs.declared.queue.Instance.{Instance}
 use Rattle.guest_core.specs.Pending.{first_new, first_of, is_empty}
+use Rattle.isa_exec.specs.Registers.{register}
 use Rattle.guest_core.specs.Instruction as step
 use Rattle.guest_core.specs.Call as call
 use Rattle.guest_core.specs.Machine.{Machine, due, later}
@@ -126,11 +127,11 @@ abbrev pub RowIsSteady : ℕ → Row → Machine → Type 0
 RowIsSteady thread (Note instance) machine = Unit {0}
 RowIsSteady thread (Take instance) machine = Unit {0}
 RowIsSteady thread ClearFlag machine = Unit {0}
-RowIsSteady thread Execute machine = step.IsFaultless (instruction_of thread machine)
+RowIsSteady thread Execute machine = step.IsFaultless (instruction_of thread machine) ⊎ (machine.shared.next_id + 1 < 2 ^ 64)
 RowIsSteady thread Check machine = Unit {0}
-RowIsSteady thread Enter machine = ⊥
+RowIsSteady thread Enter machine = register machine.regs 17 ≢ 64
 RowIsSteady thread (Return answer) machine = Unit {0}
 
--- the step enters no host and meets no fault
+-- the step writes to no device, and has an id left where it meets a fault
 abbrev pub IsSteady : ℕ → Machine → Type 0
 IsSteady thread machine = RowIsSteady thread (row_of machine) machine

@@ -1,9 +1,10 @@
-ghost use Rattle.std.specs.Prelude.{◌≡◌, ◌<◌, ◌≤◌, length, None, IfOk, IfSome, IfNone, IsSome, OnErr, MatchResult};
+ghost use Rattle.std.specs.Prelude.{◌≡◌, ◌≢◌, ◌<◌, ◌≤◌, length, None, IfOk, IfSome, IfNone, IsSome, OnErr, IsOk, MatchResult};
 ghost use Rattle.guest_core.specs.Call.{called, made, write, exit_group, refused, bad_address, bad_descriptor, no_such_call};
 ghost use Rattle.guest_pages.specs.Faults.{first_fault, readable};
 ghost use Rattle.guest_pages.specs.Operations.{bytes_at};
 ghost use Rattle.guest_core.specs.State.{shared};
 ghost use Rattle.guest_core.specs.Outcomes.{call_of};
+ghost use Rattle.isa_exec.specs.Registers.{register};
 
 use crate::ends::End;
 use crate::state::Host;
@@ -50,6 +51,7 @@ impl Host {
         ensures ok { IfOk result (λ outcome. call_of outcome self.new ≡ called thread regs.now (shared self.old)) }
         ensures noted { self.new.pending.noted ≡ self.old.pending.noted }
         ensures err { OnErr result (self.new ≡ self.old) }
+        ensures steady { register regs.now 17 ≢ 64 → IsOk result }
     {
         let outcome = self.make(regs)?;
         self.held.end(thread);
@@ -61,6 +63,7 @@ impl Host {
         ensures ok { IfOk result (λ outcome. call_of outcome self.new ≡ made regs.now (shared self.old)) }
         ensures noted { self.new.pending.noted ≡ self.old.pending.noted }
         ensures err { OnErr result (self.new ≡ self.old) }
+        ensures steady { register regs.now 17 ≢ 64 → IsOk result }
     {
         let [a0, a1, a2] = [regs.register(10), regs.register(11), regs.register(12)];
         match regs.register(17) {

@@ -1,7 +1,7 @@
 ghost use Rattle.std.specs.Prelude.{◌≡◌, ◌≤◌, ◌<◌, replicate, [], None, Some, length, take, slice_get, slice_index_or, is_none, ◌==◌, if◌then◌else◌, OnOk, OnErr, IfErr, IfSome, IsOk};
 ghost use Rattle.std.specs.Option.{option_copied};
 ghost use Rattle.guest_core.specs.Event.{is_enabled, event_after, run};
-ghost use Rattle.guest_core.specs.Ahead.{GoesOn};
+ghost use Rattle.guest_core.specs.Ahead.{AllGoOn, GoesOn};
 ghost use Rattle.guest_core.specs.Apart.{KeepsCode};
 ghost use Rattle.guest_core.specs.Machine.{first_thread};
 ghost use Rattle.guest_core.specs.Runs.{TakesNoMemory, Stopped};
@@ -100,6 +100,7 @@ impl Core {
     pub fn run_on(&mut self, limit: u32) -> u32
         ensures most { result ≤ limit }
         ensures ran { run (Some self.old) (replicate result (Event.Step first_thread)) ≡ Some self.new }
+        ensures plain { AllGoOn first_thread self.old result }
         ensures stops { result < limit → GoesOn first_thread self.new → ⊥ }
         ensures outputs { self.new.shared.outputs ≡ self.old.shared.outputs }
         ensures end { self.new.end ≡ self.old.end }

@@ -1,16 +1,17 @@
 //! The rows of a thread's step, each a function.
 
-ghost use Rattle.std.specs.Prelude.{ℕ, ◌≡◌, ◌≢◌, ◌+◌, ◌≤◌, ◌<◌, replicate, ◌^◌, [], true, false, Some, None, OnOk, OnErr, IsOk};
+ghost use Rattle.std.specs.Prelude.{ℕ, ◌≡◌, ◌≢◌, ◌⊎◌, ◌+◌, ◌≤◌, ◌<◌, replicate, ◌^◌, [], true, false, Some, None, OnOk, OnErr, IsOk};
 ghost use Rattle.std.specs.List.{All};
 ghost use Rattle.guest_core.specs.Pending.{first_new, first_of};
 ghost use Rattle.guest_core.specs.Rows.{noted, taken, flag_cleared, executed, checked, entered, returned, done, flagged_row, stepped, ticked, instruction_of, IsSteady};
-ghost use Rattle.guest_core.specs.Ahead.{IsReady, IsPlain};
+ghost use Rattle.guest_core.specs.Ahead.{IsReady, IsPlain, AllGoOn};
 ghost use Rattle.guest_core.specs.Event.{event_after, run};
 ghost use Rattle.guest_core.specs.State.{machine};
 ghost use Rattle.guest_core.specs.Instruction.{IsFaultless};
 ghost use Rattle.guest_core.specs.Machine.{is_live};
 ghost use Rattle.guest_core.specs.Apart.{IsApart, KeepsCode};
 ghost use Rattle.guest_core.specs.Known.{IsKnown};
+ghost use Rattle.isa_exec.specs.Registers.{register};
 
 use crate::calls::Outcome;
 use crate::decoder::Decoder;
@@ -85,7 +86,7 @@ impl State {
         requires { self.old.host.pending.instances ≡ [] }
         ensures ok { OnOk result (machine self.new ≡ executed thread (machine self.old)) }
         ensures err { OnErr result (machine self.new ≡ machine self.old) }
-        ensures steady { IsFaultless (instruction_of thread (machine self.old)) → IsOk result }
+        ensures steady { IsFaultless (instruction_of thread (machine self.old)) ⊎ (self.old.host.pending.next_id + 1 < 2 ^ 64) → IsOk result }
     {
         match make_instruction(
             thread,
@@ -135,6 +136,7 @@ impl State {
         ensures made { result ≡ true → event_after (machine self.old) (Event.Step thread) ≡ Some (machine self.new) }
         ensures ready { IsReady (machine self.new) }
         ensures stays { result ≡ false → machine self.new ≡ machine self.old }
+        ensures plain { result ≡ true → IsPlain (instruction_of thread (machine self.old)) }
         ensures stops { result ≡ false → IsPlain (instruction_of thread (machine self.old)) → ⊥ }
         ensures outputs { (machine self.new).shared.outputs ≡ (machine self.old).shared.outputs }
         ensures code { KeepsCode self.old.host.memory self.new.host.memory }
@@ -162,6 +164,7 @@ impl State {
         requires known { All (IsKnown self.old.host.memory) decoder.old }
         ensures most { result ≤ limit }
         ensures ran { run (Some (machine self.old)) (replicate result (Event.Step thread)) ≡ Some (machine self.new) }
+        ensures plain { AllGoOn thread (machine self.old) result }
         ensures ready { IsReady (machine self.new) }
         ensures stops { result < limit → IsPlain (instruction_of thread (machine self.new)) → ⊥ }
         ensures outputs { (machine self.new).shared.outputs ≡ (machine self.old).shared.outputs }
@@ -182,6 +185,7 @@ impl State {
     fn enter(&mut self, thread: u32) -> Result<(), AllocError>
         ensures ok { OnOk result (machine self.new ≡ entered thread (machine self.old)) }
         ensures err { OnErr result (machine self.new ≡ machine self.old) }
+        ensures steady { register self.old.regs 17 ≢ 64 → IsOk result }
     {
         match self.host.call(thread, &self.regs)? {
             Outcome::Answer(answer) => self.place = Place::Done(answer),

@@ -1,4 +1,4 @@
-ghost use Rattle.std.specs.Prelude.{◌≡◌, ◌↔◌, ◌<◌, ◌==◌, if◌then◌else◌, ℕ, [], None, Some, IsTrue, IsSome, IfSome, IfOk, OnOk, MatchBool, length, slice_index_or, filter, not};
+ghost use Rattle.std.specs.Prelude.{◌≡◌, ◌↔◌, ◌<◌, ◌==◌, if◌then◌else◌, ℕ, [], None, Some, IsTrue, IsSome, IfSome, IfOk, OnOk, OnErr, Ok, false, MatchBool, length, slice_index_or, filter, not};
 ghost use Rattle.std.specs.Option.{option_copied};
 ghost use Rattle.guest_core.specs.Call.{called as call_of, write as write_of, Outcome as CallOutcome};
 ghost use Rattle.isa_exec.specs.Registers.{register};
@@ -103,10 +103,12 @@ impl Process {
         }
     }
 
-    /// Makes a step, or answers false where the label is not allowed.
+    /// Makes a step, or answers false where the label is not allowed. Then, and after want of memory, all is as before.
     #[tactic(auto, unfolding(crate::specs::Steps::step))]
     pub fn step(&mut self, label: &Label) -> Result<bool, AllocError>
-        ensures { IfOk result (λ made. MatchBool made (step self.old label.now ≡ Some self.new) (step self.old label.now ≡ None)) }
+        ensures made { IfOk result (λ made. MatchBool made (step self.old label.now ≡ Some self.new) (step self.old label.now ≡ None)) }
+        ensures refused { result ≡ Ok false → self.new ≡ self.old }
+        ensures err { OnErr result (self.new ≡ self.old) }
     {
         if self.end.is_some() {
             return Ok(false);
@@ -137,9 +139,11 @@ impl Process {
     }
 
     fn instruction(&mut self, thread: u32) -> Result<bool, AllocError>
-        ensures { IfOk result (λ made. MatchBool made
+        ensures made { IfOk result (λ made. MatchBool made
             (instructed (instruction_of thread self.old) self.old ≡ Some self.new)
             (instructed (instruction_of thread self.old) self.old ≡ None)) }
+        ensures refused { result ≡ Ok false → self.new ≡ self.old }
+        ensures err { OnErr result (self.new ≡ self.old) }
     {
         match make_instruction(thread, &mut self.regs, &mut self.memory, &mut self.held) {
             Ok(Made::Done) => Ok(true),
@@ -152,7 +156,8 @@ impl Process {
     }
 
     fn fault(&mut self, fault: Fault) -> Result<(), AllocError>
-        ensures { OnOk result (self.new ≡ record self.old { shared = forced fault self.old.shared }) }
+        ensures ok { OnOk result (self.new ≡ record self.old { shared = forced fault self.old.shared }) }
+        ensures err { OnErr result (self.new ≡ self.old) }
     {
         let id = self.next_id;
         if id == u64::MAX {
@@ -165,7 +170,8 @@ impl Process {
 
     #[tactic(auto, unfolding(guest_core::specs::Call::called, guest_core::specs::Call::made, guest_core::specs::Call::answered, guest_core::specs::Call::write))]
     fn call(&mut self, thread: u32) -> Result<(), AllocError>
-        ensures { OnOk result (self.new ≡ call_done (call_of thread self.old.regs self.old.shared) self.old) }
+        ensures ok { OnOk result (self.new ≡ call_done (call_of thread self.old.regs self.old.shared) self.old) }
+        ensures err { OnErr result (self.new ≡ self.old) }
     {
         let number = self.regs.register(17);
         let first = self.regs.register(10);
@@ -188,7 +194,8 @@ impl Process {
 
     #[tactic(auto, unfolding(guest_core::specs::Call::write))]
     fn write(&mut self, descriptor: u64) -> Result<i64, AllocError>
-        ensures { IfOk result (λ answer. (write_of descriptor (register self.old.regs 11) (register self.old.regs 12) self.old.shared ≡ record { shared = self.new.shared; outcome = CallOutcome.Answers answer }) × (self.new.regs ≡ self.old.regs) × (self.new.end ≡ self.old.end)) }
+        ensures ok { IfOk result (λ answer. (write_of descriptor (register self.old.regs 11) (register self.old.regs 12) self.old.shared ≡ record { shared = self.new.shared; outcome = CallOutcome.Answers answer }) × (self.new.regs ≡ self.old.regs) × (self.new.end ≡ self.old.end)) }
+        ensures err { OnErr result (self.new ≡ self.old) }
     {
         if self.outputs.len() as u64 <= descriptor {
             return Ok(-EBADF);
@@ -209,7 +216,8 @@ impl Process {
     }
 
     fn take(&mut self, id: u64) -> bool
-        ensures { MatchBool result (taken (first_of self.old.shared.pending) id self.old ≡ Some self.new) (taken (first_of self.old.shared.pending) id self.old ≡ None) }
+        ensures made { MatchBool result (taken (first_of self.old.shared.pending) id self.old ≡ Some self.new) (taken (first_of self.old.shared.pending) id self.old ≡ None) }
+        ensures refused { result ≡ false → self.new ≡ self.old }
     {
         let Some(instance) = first(self.pending.as_slice()) else {
             return false;

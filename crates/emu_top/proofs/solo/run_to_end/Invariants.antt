@@ -1,7 +1,7 @@
 use Rattle.std.proofs.Common.{◌≡◌, ◌≤◌, Some, map, length}
 use Rattle.guest_core.specs.Event.{run}
 use Rattle.emu_top.specs.Running.{KeepsSent}
-use Rattle.emu_top.specs.Sending.{NoneFell}
+use Rattle.emu_top.specs.Sending.{AreUnread, NoneFell}
 use Rattle.emu_top.proofs.solo.run_to_end.Given as goal
 
 abbrev pub invariant-loop : goal.invariant-loop
@@ -13,5 +13,6 @@ invariant-loop g l = record {
   sent : KeepsSent g.D.Device.held l.initial.run l.run;
   devices : length l.run.devices.items ≡ length l.initial.run.devices.items;
   outputs : length l.run.core.shared.outputs ≡ length l.initial.run.core.shared.outputs;
+  unread : AreUnread g.D.Device.left g.D.Device.failed_reads l.initial.run.devices.items l.run.devices.items;
   none_fell : NoneFell (map g.D.Device.failed_writes l.initial.run.devices.items) (map g.D.Device.failed_writes l.run.devices.items);
 }

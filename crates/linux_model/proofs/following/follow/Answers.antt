@@ -6,7 +6,7 @@ use Rattle.linux_model.proofs.following.follow.Goals as goal
 pub loop-index-preserved : goal.loop-index-preserved
 loop-index-preserved c =
     let more = follow_take_more (Some c.args.start) c.args.labels.now c.loop-index.index (Instr 0) c.loop-index-test.true in
-    rw (more, c.loop-index.invariant) (rw c.in-Ok-true.field-0-test at c.in-Ok-true.ensures)
+    rw (more, c.loop-index.invariant) (rw c.in-Ok-true.field-0-test at c.in-Ok-true.ensures.made)
 
 pub returns-in-Ok-false-clause-stopped : goal.returns-in-Ok-false-clause-stopped
 returns-in-Ok-false-clause-stopped c =
@@ -15,5 +15,5 @@ returns-in-Ok-false-clause-stopped c =
       within = c.loop-index-test.true;
       last = c.loop-index.process;
       before = c.loop-index.invariant;
-      refused = rw (more, c.loop-index.invariant) (rw c.in-Ok-false.field-0-test at c.in-Ok-false.ensures);
+      refused = rw (more, c.loop-index.invariant) (rw c.in-Ok-false.field-0-test at c.in-Ok-false.ensures.made);
     }

@@ -11,3 +11,6 @@ invariant_of-self c = record {
   apart = c.run_on.ensures.apart;
   right = c.run_on.ensures.known;
 }
+
+pub returns-clause-plain : goal.returns-clause-plain
+returns-clause-plain c = rw (← c.self.view_is) c.run_on.ensures.plain
