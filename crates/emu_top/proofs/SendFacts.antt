@@ -61,3 +61,7 @@ unread_on left reads first now next before after = record {
   same_left = after.same_left ∙ before.same_left;
   same_reads = after.same_reads ∙ before.same_reads;
 }
+
+pub still_at : {D E : Type 0} (writes : D → ℕ) (result : Result (Unit {0}) E) (devices : List D) (place : ℕ) (device new : D) → device ≡ get_or devices place device → OnOk result (writes new ≡ writes device) → OnOk result (map writes (set devices place new) ≡ map writes devices)
+still_at writes (Ok done) devices place device new is same = same_set writes devices place device new is same
+still_at writes (Err error) devices place device new is same = same

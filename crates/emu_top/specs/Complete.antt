@@ -30,3 +30,9 @@ pub record NoneRose {D K : Type 0} (writes : D → ℕ) (note_writes : K → ℕ
   pub reads : Rose reads_before reads_after → ⊥
   pub devices : (device : ℕ) → Rose (slice_index (map writes before) device) (slice_index (map writes after) device) → ⊥
   pub notes : Rose (note_writes notes_before) (note_writes notes_after) → ⊥
+
+-- no failure was passed over: all counts of faults are as before
+pub record NothingFailed {D K : Type 0} (writes : D → ℕ) (note_writes : K → ℕ) (reads_before reads_after : ℕ) (before after : List D) (notes_before notes_after : K) : Type 0 where
+  pub same_reads : reads_after ≡ reads_before
+  pub same_writes : map writes after ≡ map writes before
+  pub same_notes : note_writes notes_after ≡ note_writes notes_before

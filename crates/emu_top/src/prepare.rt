@@ -40,6 +40,7 @@ pub fn prepare<F: Folder>(alloc: Global, words: &[String], folder: &mut F) -> Re
     ensures ok { IfOk result (IsLaunch (F.tree folder.old) (map string_bytes words.now)) }
     ensures cause { IfErr result (Unprepared (F.tree folder.old) (F.failed_reads folder.old) (F.failed_reads folder.new) (map string_bytes words.now)) }
     ensures tree { F.tree folder.new ≡ F.tree folder.old }
+    ensures still { OnOk result (F.failed_reads folder.new ≡ F.failed_reads folder.old) }
 {
     let plan = match plan_of(alloc, words) {
         Ok(plan) => plan,
@@ -73,6 +74,7 @@ fn elf_of<F: Folder>(alloc: Global, plan: &Plan, folder: &mut F) -> Result<Elf, 
     ensures ok { IfOk result (λ elf. IsLoaded (F.tree folder.old) plan.now.program (image elf)) }
     ensures cause { IfErr result (IsUnloaded (F.tree folder.old) (F.failed_reads folder.old) (F.failed_reads folder.new) plan.now.program) }
     ensures tree { F.tree folder.new ≡ F.tree folder.old }
+    ensures still { OnOk result (F.failed_reads folder.new ≡ F.failed_reads folder.old) }
 {
     let program = plan.program.as_str();
     let bytes = match load(alloc, folder, program) {
@@ -127,6 +129,7 @@ fn load<F: Folder>(alloc: Global, folder: &mut F, program: &str) -> Result<Vec<u
     ensures ok { IfOk result (λ bytes. Found (F.tree folder.old) program.now bytes.items) }
     ensures fault { IfErr result (NotLoaded (F.tree folder.old) (F.failed_reads folder.old) (F.failed_reads folder.new) program.now) }
     ensures tree { F.tree folder.new ≡ F.tree folder.old }
+    ensures still { OnOk result (F.failed_reads folder.new ≡ F.failed_reads folder.old) }
 {
     let listing = match folder.list(alloc) {
         Ok(listing) => listing,

@@ -61,6 +61,7 @@ fn send<D: Device>(devices: &mut Vec<D>, device: usize, bytes: &[u8]) -> Result<
     ensures rose { OnErr result (Rose (slice_index (map D.failed_writes devices.old.items) device) (slice_index (map D.failed_writes devices.new.items) device)) }
     ensures count { length devices.new.items ≡ length devices.old.items }
     ensures unread { AreUnread D.left D.failed_reads devices.old.items devices.new.items }
+    ensures still { OnOk result (map D.failed_writes devices.new.items ≡ map D.failed_writes devices.old.items) }
 {
     devices[device].take(bytes)
 }
@@ -90,6 +91,7 @@ fn turn<D: Device>(run: &mut Run<D>) -> Result<(), Halt>
     ensures outputs { length run.new.core.shared.outputs ≡ length run.old.core.shared.outputs }
     ensures budget { run.new.journal.budget ≡ run.old.journal.budget }
     ensures unread { AreUnread D.left D.failed_reads run.old.devices.items run.new.devices.items }
+    ensures still { OnOk result (map D.failed_writes run.new.devices.items ≡ map D.failed_writes run.old.devices.items) }
 {
     match run.core.lengthens(&Event::Step(FIRST_THREAD)) {
         None => match advance(&mut run.core, &mut run.journal) {
@@ -119,6 +121,7 @@ pub fn run_to_end<D: Device>(run: &mut Run<D>) -> Result<End, Halt>
     ensures none_fell { NoneFell (map D.failed_writes run.old.devices.items) (map D.failed_writes run.new.devices.items) }
     ensures devices { length run.new.devices.items ≡ length run.old.devices.items }
     ensures unread { AreUnread D.left D.failed_reads run.old.devices.items run.new.devices.items }
+    ensures still { OnOk result (map D.failed_writes run.new.devices.items ≡ map D.failed_writes run.old.devices.items) }
 {
     for _ in 0..run.journal.budget() {
         if let Some(end) = run.core.ended() {

@@ -1,9 +1,9 @@
 //! The top call of `solo`.
 
-ghost use Rattle.std.specs.Prelude.{◌≡◌, ◌≤◌, ◌<◌, [], map, length, Ok, Err, IfOk, IfErr, MatchResult};
+ghost use Rattle.std.specs.Prelude.{◌≡◌, ◌≤◌, ◌<◌, [], map, length, Ok, Err, IfOk, IfErr, MatchResult, OnOk};
 ghost use Rattle.std.specs.String.{string_bytes};
 ghost use Rattle.emu_top.specs.Sending.{AreUnread, sent};
-ghost use Rattle.emu_top.specs.Complete.{IsRunnable, NoneRose};
+ghost use Rattle.emu_top.specs.Complete.{IsRunnable, NoneRose, NothingFailed};
 ghost use Rattle.elf_file.specs.Reading.{image};
 ghost use Rattle.guest_core.specs.Start.{program_of, Starts};
 ghost use Rattle.emu_top.specs.Notes.{end_line, TellsEnd, TellsFault, EndsUntold};
@@ -74,7 +74,8 @@ pub fn solo_top<F: Folder, K: Sink, D: Device>(
     ensures caused { IfErr result (λ f. Faults D.held D.failed_writes K.held K.failed_writes (F.tree folder.old) (F.failed_reads folder.old) (F.failed_reads folder.new) (map string_bytes words.now) devices.items notes.old notes.new f.cause f.journal f.devices.items) }
     // Where the words name a file of the folder that starts, and no count rose, only want of memory is left.
     ensures complete { IfErr result (λ f. IsRunnable (F.tree folder.old) (map string_bytes words.now) → NoneRose D.failed_writes K.failed_writes (F.failed_reads folder.old) (F.failed_reads folder.new) devices.items f.devices.items notes.old notes.new → f.cause ≡ memory) }
-    // Nothing is read of the devices.
+    // No failure is passed over, and nothing is read of the devices.
+    ensures quiet { IfOk result (λ f. NothingFailed D.failed_writes K.failed_writes (F.failed_reads folder.old) (F.failed_reads folder.new) devices.items f.devices.items notes.old notes.new) }
     ensures unread { MatchResult result
         (λ f. AreUnread D.left D.failed_reads devices.items f.devices.items)
         (λ f. AreUnread D.left D.failed_reads devices.items f.devices.items) }
@@ -93,6 +94,7 @@ fn tell_end<K: Sink, D: Device>(
     notes: &mut K,
 ) -> Result<Finished<D>, TopFault<D>>
     ensures told { IfOk result (λ f. (f ≡ finished) × TellsEnd K.held (end_line f.journal.budget f.end) notes.old notes.new) }
+    ensures still { OnOk result (K.failed_writes notes.new ≡ K.failed_writes notes.old) }
     ensures failed { IfErr result (λ f. EndsUntold K.held K.failed_writes finished.journal.budget finished.end notes.old notes.new f.cause × (f.journal ≡ finished.journal) × (f.devices ≡ finished.devices)) }
 {
     match line_of_end(alloc, finished.journal.budget(), &finished.end) {
@@ -174,6 +176,7 @@ fn attempt<F: Folder, D: Device>(
     ensures unread { MatchResult result
         (λ f. AreUnread D.left D.failed_reads devices.items f.devices.items)
         (λ f. AreUnread D.left D.failed_reads devices.items f.devices.items) }
+    ensures still { IfOk result (λ f. (F.failed_reads folder.new ≡ F.failed_reads folder.old) × (map D.failed_writes f.devices.items ≡ map D.failed_writes devices.items)) }
     ensures folder { F.tree folder.new ≡ F.tree folder.old }
 {
     let launch = match prepare(alloc, words, folder) {
@@ -266,6 +269,7 @@ fn execute<D: Device>(
     ensures unread { MatchResult result
         (λ f. AreUnread D.left D.failed_reads devices.items f.devices.items)
         (λ f. AreUnread D.left D.failed_reads devices.items f.devices.items) }
+    ensures still { IfOk result (λ f. map D.failed_writes f.devices.items ≡ map D.failed_writes devices.items) }
 {
     let mut run = Run {
         core,

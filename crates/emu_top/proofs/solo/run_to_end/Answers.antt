@@ -1,4 +1,4 @@
-use Rattle.std.proofs.Common.{◌<◌, ◌≤◌, ◌+◌, ◌-◌, ap, length, arith}
+use Rattle.std.proofs.Common.{◌<◌, ◌≤◌, ◌+◌, ◌-◌, ◌∙◌, ap, length, map, arith}
 use Rattle.emu_top.proofs.RunFacts.{SoFar, Turned, ahead_longer, so_far_ahead, so_far_turned, stopped_at, stopped_here, turned_longer}
 use Rattle.emu_top.proofs.SendFacts.{unread_on, unread_still}
 use Rattle.emu_top.proofs.solo.run_to_end.Goals as goal
@@ -71,6 +71,7 @@ loop-preserved g c =
       devices = next.devices;
       outputs = next.outputs;
       none_fell = next.none_fell;
+      still = c.in-Ok-turn.ensures.still ∙ ap (λ devices. map g.D.Device.failed_writes devices.items) c.go_ahead.ensures.devices ∙ c.loop.invariant.still;
       unread = unread_on g.D.Device.left g.D.Device.failed_reads first.devices.items c.go_ahead.new.run.devices.items c.turn.new.run.devices.items
           (unread_on g.D.Device.left g.D.Device.failed_reads first.devices.items now.devices.items c.go_ahead.new.run.devices.items c.loop.invariant.unread
           (unread_still g.D.Device.left g.D.Device.failed_reads now.devices.items c.go_ahead.new.run.devices.items (ap (λ devices. devices.items) c.go_ahead.ensures.devices)))

@@ -14,5 +14,6 @@ invariant-loop g l = record {
   devices : length l.run.devices.items ≡ length l.initial.run.devices.items;
   outputs : length l.run.core.shared.outputs ≡ length l.initial.run.core.shared.outputs;
   unread : AreUnread g.D.Device.left g.D.Device.failed_reads l.initial.run.devices.items l.run.devices.items;
+  still : map g.D.Device.failed_writes l.run.devices.items ≡ map g.D.Device.failed_writes l.initial.run.devices.items;
   none_fell : NoneFell (map g.D.Device.failed_writes l.initial.run.devices.items) (map g.D.Device.failed_writes l.run.devices.items);
 }

@@ -1,4 +1,4 @@
-use Rattle.emu_top.proofs.SendFacts.{send_ok, send_err, none_fell, rose_at, unread_at}
+use Rattle.emu_top.proofs.SendFacts.{send_ok, send_err, none_fell, rose_at, still_at, unread_at}
 use Rattle.emu_top.proofs.solo.send.Goals as goal
 
 pub returns-clause-ok : goal.returns-clause-ok
@@ -20,3 +20,7 @@ returns-clause-rose g c =
 pub returns-clause-unread : goal.returns-clause-unread
 returns-clause-unread g c =
     unread_at g.D.Device.left g.D.Device.failed_reads c.args.devices.now.items c.args.device c.index_mut.result.now c.take.new.self c.index_mut.ensures.value c.take.ensures.left c.take.ensures.reads
+
+pub returns-clause-still : goal.returns-clause-still
+returns-clause-still g c =
+    still_at g.D.Device.failed_writes c.take.result c.args.devices.now.items c.args.device c.index_mut.result.now c.take.new.self c.index_mut.ensures.value c.take.ensures.writes.still
