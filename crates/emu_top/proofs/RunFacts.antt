@@ -1,5 +1,5 @@
 -- A run goes on by a turn.
-use Rattle.std.proofs.Common.{◌≡◌, ℕ, ◌+◌, ◌<◌, ◌≤◌, List, [], ◌∷◌, Option, Some, map, length, slice_index, ap, sym, ◌∙◌, length-append, arith}
+use Rattle.std.proofs.Common.{◌≡◌, ℕ, ◌+◌, ◌<◌, ◌≤◌, List, [], ◌∷◌, ◌++◌, Option, Some, map, length, slice_index, ap, sym, ◌∙◌, length-append, arith}
 use Rattle.guest_core.specs.declared.events.Event.{Event}
 use Rattle.guest_core.specs.declared.events.Event.TheVariants.{Step}
 use Rattle.std.specs.declared.alloc.Global.{Global}
@@ -11,7 +11,8 @@ use Rattle.emu_top.specs.declared.solo.Halt.{Halt}
 use Rattle.emu_top.specs.declared.solo.Halt.TheVariants as halts
 use Rattle.emu_top.specs.declared.solo.Run.{Run}
 use Rattle.emu_top.specs.Sending.{NoneFell}
-use Rattle.emu_top.specs.Running.{Makes, WentAhead, Stepped, KeepsSent, KeepsSentUpTo, FailsAt, Halted, Stopped}
+use Rattle.emu_top.specs.Running.{Breaks, Makes, WentAhead, Stepped, KeepsSent, KeepsSentUpTo, FailsAt, Halted, Stopped}
+use Rattle.guest_core.specs.Growth.{lengthens}
 use Rattle.emu_top.specs.Told.{Rose}
 
 -- a run so far, from how it was at first
@@ -61,8 +62,15 @@ count_more now next stepped = ap length stepped.noted ∙ length-append now.jour
 pub sent_on : {D : Type 0} (held : D → Option (List ℕ)) (first now next : Run D) → length now.core.shared.outputs ≡ length first.core.shared.outputs → KeepsSent held first now → KeepsSent held now next → KeepsSent held first next
 sent_on held first now next same before after = λ helds size all. after helds (size ∙ sym same) (before helds size all)
 
-up_to_on : {D : Type 0} (held : D → Option (List ℕ)) (device : ℕ) (first now next : Run D) → length now.core.shared.outputs ≡ length first.core.shared.outputs → KeepsSent held first now → KeepsSentUpTo held device now next → KeepsSentUpTo held device first next
-up_to_on held device first now next same before after = λ helds size all. after helds (size ∙ sym same) (before helds size all)
+breaks_on : {D : Type 0} (held : D → Option (List ℕ)) (device : ℕ) (first now next : Run D) → length now.core.shared.outputs ≡ length first.core.shared.outputs → run (Some first.core) now.journal.events ≡ Some now.core → KeepsSent held first now → next.journal.events ≡ now.journal.events ++ Step first_thread ∷ [] → lengthens now.core (Step first_thread) ≡ Some device → KeepsSentUpTo held device now next → Breaks held device first next
+breaks_on held device first now next same ran before noted writes after = λ helds size all. record {
+  front = now.journal.events;
+  earlier = now.core;
+  events_are = noted;
+  ran = ran;
+  writes = writes;
+  sent_up_to = after helds (size ∙ sym same) (before helds size all);
+}
 
 pub fell_on : (first now next : List ℕ) → NoneFell first now → NoneFell now next → NoneFell first next
 fell_on first now next before after = λ place. omega (arith, before place, after place)
@@ -107,7 +115,7 @@ stopped_at held writes (halts.Device device) first now next so_far more budget h
     within = omega (arith, count_more now next halted.0, so_far.budget, budget, more);
     budget = budget ∙ so_far.budget;
   },
-  up_to_on held device first now next so_far.outputs so_far.sent halted.1,
+  breaks_on held device first now next so_far.outputs so_far.ran so_far.sent halted.0.noted halted.3 halted.1,
   fails_on writes device first now next so_far.none_fell halted.2,
 )
 stopped_at held writes halts.Memory first now next so_far more budget halted = (

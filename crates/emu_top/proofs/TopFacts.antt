@@ -12,7 +12,7 @@ use Rattle.emu_top.specs.declared.solo.Halt.TheVariants as halts
 use Rattle.emu_top.specs.declared.solo.Run.{Run}
 use Rattle.emu_top.specs.declared.top.Finished.{Finished}
 use Rattle.emu_top.specs.declared.top.Stopped as top
-use Rattle.emu_top.specs.Running.{Ran, Ended, Stopped}
+use Rattle.emu_top.specs.Running.{BreaksOff, Ran, Ended, Stopped}
 use Rattle.emu_top.specs.Sending.{sent}
 use Rattle.guest_core.specs.Event.{run}
 use Rattle.emu_top.specs.declared.folder.Entry.{Entry}
@@ -116,11 +116,12 @@ finishes held tree words asked elf core before end status journal after finished
 
 -- and one that stopped is a cause
 pub is_caused : {D : Type 0} (held : D → Option (List ℕ)) (writes : D → ℕ) (tree : Option (List Entry)) (reads_before reads_after : ℕ) (words : List (List ℕ)) (asked : Asked) (elf : Image) (core : Machine) (before : List D) (halt : Halt) (journal : History) (after : List D) → CoreStops held writes core asked.budget before halt journal after → Prepared tree words asked elf → FitsIn (launched asked elf) → core ≡ started (launched asked elf) (length before) → IsCaused held writes tree reads_before reads_after words before (halt_cause halt) journal after
+unfolding journeys
 is_caused held writes tree reads_before reads_after words asked elf core before (halts.Device device) journal after stopped prepared fit is = record {
   last = stopped.0;
   process = view stopped.0;
   journeys = journeys tree words asked elf (length before) core journal stopped.0 prepared fit is stopped.1;
-  sent_up_to = stopped.2;
+  breaks_off = subst (λ (first : Machine). BreaksOff first journal.events stopped.0.shared.outputs device (map held before) (map held after)) is stopped.2;
   is_device = stopped.3;
   rose = stopped.4;
 }

@@ -66,7 +66,7 @@ turn_sent held_before held_after old new device before within at grown sending h
     ∙ ap (sent helds) (sym grown.1)
 
 -- where a beginning of them was sent, all is sent but to this device
-turn_up_to : (held_before held_after : List (Option (List ℕ))) (old new : List (List ℕ)) (device before : ℕ) → device < length old → before ≡ length (get_or old device []) → Lengthened (Some device) old new → ((count : ℕ) × (count ≤ length (drop before (get_or new device []))) × (held_after ≡ set held_before device (more (get_or held_before device None) (take count (drop before (get_or new device [])))))) → (helds : List (Option (List ℕ))) → length helds ≡ length old → held_before ≡ sent helds old → SentUpTo helds new device held_after
+turn_up_to : (held_before held_after : List (Option (List ℕ))) (old new : List (List ℕ)) (device before : ℕ) → device < length old → before ≡ length (get_or old device []) → Lengthened (Some device) old new → ((count : ℕ) × (count ≤ length (drop before (get_or new device []))) × (held_after ≡ set held_before device (more (get_or held_before device None) (take count (drop before (get_or new device [])))))) → (helds : List (Option (List ℕ))) → length helds ≡ length old → held_before ≡ sent helds old → SentUpTo helds old new device held_after
 turn_up_to held_before held_after old new device before within at grown sending helds same all =
     let bytes = grown.0 in
     let count = sending.0 in
@@ -89,7 +89,7 @@ turn_up_to held_before held_after old new device before within at grown sending 
     ∙ ap (λ list. set list device (more (get_or held_before device None) (take count (drop before (get_or new device []))))) all
     ∙ ap (λ was. set (sent helds old) device (more was (take count (drop before (get_or new device []))))) told
     ∙ ap (λ list. set (sent helds old) device (more (more held output) (take count list))) fresh in
-    (length output + count, size, left ∙ sym right)
+    (length output + count, omega arith, size, left ∙ sym right)
 
 all_left : (before : ℕ) (output : List ℕ) → take (length output - before) (drop before output) ≡ drop before output
 all_left before output = grind (arith, common_steps)
@@ -117,7 +117,7 @@ sent_all held_before held_after target old new device output_before output_now s
     turn_sent held_before held_after old new device (length output_before) s.within (ap length s.before) (grown_at target device old new s.target_is s.grown)
     (sending ∙ ap (λ bytes. set held_before device (more (get_or held_before device None) bytes)) (fresh_of output_before output_now (get_or new device []) s.now))
 
-pub sent_part : (held_before held_after : List (Option (List ℕ))) (target : Option ℕ) (old new : List (List ℕ)) (device : ℕ) (output_before output_now : List ℕ) → Sending target old new device output_before output_now → ((count : ℕ) × (count ≤ length (take (length output_now - length output_before) (drop (length output_before) output_now))) × (held_after ≡ set held_before device (more (get_or held_before device None) (take count (take (length output_now - length output_before) (drop (length output_before) output_now)))))) → (helds : List (Option (List ℕ))) → length helds ≡ length old → held_before ≡ sent helds old → SentUpTo helds new device held_after
+pub sent_part : (held_before held_after : List (Option (List ℕ))) (target : Option ℕ) (old new : List (List ℕ)) (device : ℕ) (output_before output_now : List ℕ) → Sending target old new device output_before output_now → ((count : ℕ) × (count ≤ length (take (length output_now - length output_before) (drop (length output_before) output_now))) × (held_after ≡ set held_before device (more (get_or held_before device None) (take count (take (length output_now - length output_before) (drop (length output_before) output_now)))))) → (helds : List (Option (List ℕ))) → length helds ≡ length old → held_before ≡ sent helds old → SentUpTo helds old new device held_after
 sent_part held_before held_after target old new device output_before output_now s sending =
     let fresh = fresh_of output_before output_now (get_or new device []) s.now in
     turn_up_to held_before held_after old new device (length output_before) s.within (ap length s.before) (grown_at target device old new s.target_is s.grown) (

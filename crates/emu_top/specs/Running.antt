@@ -7,6 +7,7 @@ use Rattle.guest_core.specs.declared.ends.End.{End}
 use Rattle.guest_core.specs.declared.ends.End.TheVariants.{Budget}
 use Rattle.guest_core.specs.Machine.{Machine, first_thread}
 use Rattle.guest_core.specs.Event.{event_after, run}
+use Rattle.guest_core.specs.Growth.{lengthens}
 use Rattle.emu_top.specs.declared.solo.Halt.{Halt}
 use Rattle.emu_top.specs.declared.solo.Halt.TheVariants as halts
 use Rattle.emu_top.specs.declared.solo.Run.{Run}
@@ -46,12 +47,12 @@ KeepsSent held old new =
     → map held old.devices.items ≡ sent helds old.core.shared.outputs
     → map held new.devices.items ≡ sent helds new.core.shared.outputs
 
--- the same but for a device that failed
+-- the same but for a device that failed at the last write
 abbrev pub KeepsSentUpTo : {D : Type 0} → (D → Option (List ℕ)) → ℕ → Run D → Run D → Type 0
 KeepsSentUpTo held device old new =
     (helds : List (Option (List ℕ))) → length helds ≡ length old.core.shared.outputs
     → map held old.devices.items ≡ sent helds old.core.shared.outputs
-    → SentUpTo helds new.core.shared.outputs device (map held new.devices.items)
+    → SentUpTo helds old.core.shared.outputs new.core.shared.outputs device (map held new.devices.items)
 
 -- the device is there, and its count of failed writes rose
 pub record FailsAt {D : Type 0} (writes : D → ℕ) (device : ℕ) (old new : Run D) : Type 0 where
@@ -60,7 +61,8 @@ pub record FailsAt {D : Type 0} (writes : D → ℕ) (device : ℕ) (old new : R
 
 -- why a turn stopped, and what it leaves
 abbrev pub Halted : {D : Type 0} → (D → Option (List ℕ)) → (D → ℕ) → Halt → Run D → Run D → Type 0
-Halted held writes (halts.Device device) old new = Stepped old new × KeepsSentUpTo held device old new × FailsAt writes device old new
+Halted held writes (halts.Device device) old new =
+    Stepped old new × KeepsSentUpTo held device old new × FailsAt writes device old new × (lengthens old.core (Step first_thread) ≡ Some device)
 Halted held writes halts.Memory old new = Stays old new
 
 -- The events of the journal are a run from the core at first to the core afterwards: each is enabled after those
@@ -81,7 +83,23 @@ pub record Ended {D : Type 0} (held : D → Option (List ℕ)) (end : End) (old 
   pub end_is : IsEnd new.core.end (length new.journal.events) new.journal.budget end
   pub sent : KeepsSent held old new
 
+-- A run's last event wrote to a device, which failed: it holds all that was written before that event.
+pub record BreaksOff (first : Machine) (events : List Event) (outputs : List (List ℕ)) (device : ℕ) (helds after : List (Option (List ℕ))) : Type 0 where
+  pub front : List Event
+  pub earlier : Machine
+  pub events_are : events ≡ front ++ Step first_thread ∷ []
+  pub ran : run (Some first) front ≡ Some earlier
+  pub writes : lengthens earlier (Step first_thread) ≡ Some device
+  pub sent_up_to : SentUpTo helds earlier.shared.outputs outputs device after
+
+-- where all outputs had been sent to devices that held this at first, the run breaks off so
+abbrev pub Breaks : {D : Type 0} → (D → Option (List ℕ)) → ℕ → Run D → Run D → Type 0
+Breaks held device old new =
+    (helds : List (Option (List ℕ))) → length helds ≡ length old.core.shared.outputs
+    → map held old.devices.items ≡ sent helds old.core.shared.outputs
+    → BreaksOff old.core new.journal.events new.core.shared.outputs device helds (map held new.devices.items)
+
 -- a run that a fault stopped
 abbrev pub Stopped : {D : Type 0} → (D → Option (List ℕ)) → (D → ℕ) → Halt → Run D → Run D → Type 0
-Stopped held writes (halts.Device device) old new = Ran old new × KeepsSentUpTo held device old new × FailsAt writes device old new
+Stopped held writes (halts.Device device) old new = Ran old new × Breaks held device old new × FailsAt writes device old new
 Stopped held writes halts.Memory old new = Ran old new × KeepsSent held old new

@@ -9,10 +9,10 @@ sent [] outputs = []
 sent (held ∷ helds) [] = held ∷ helds
 sent (held ∷ helds) (output ∷ outputs) = more held output ∷ sent helds outputs
 
--- so does each but one, which holds a beginning of its output
-abbrev pub SentUpTo : List (Option (List ℕ)) → List (List ℕ) → ℕ → List (Option (List ℕ)) → Type 0
-SentUpTo helds outputs device after =
-    (count : ℕ) × (count ≤ length (slice_index_or outputs device []))
+-- so does each but one, which holds a beginning of its output, and all of what it was earlier
+abbrev pub SentUpTo : List (Option (List ℕ)) → List (List ℕ) → List (List ℕ) → ℕ → List (Option (List ℕ)) → Type 0
+SentUpTo helds earlier outputs device after =
+    (count : ℕ) × (length (slice_index_or earlier device []) ≤ count) × (count ≤ length (slice_index_or outputs device []))
     × (after ≡ slice_set (sent helds outputs) device (more (slice_index_or helds device None) (take count (slice_index_or outputs device []))))
 
 -- no count has fallen

@@ -27,8 +27,8 @@ use Rattle.emu_top.specs.Files.{NamesFile, Lists, Reads}
 use Rattle.emu_top.specs.Journal.{History}
 use Rattle.emu_top.specs.Labels.{run_labels}
 use Rattle.emu_top.specs.Notes.{end_line, cause_line, Tries, FailsToTell}
-use Rattle.emu_top.specs.Running.{IsEnd}
-use Rattle.emu_top.specs.Sending.{sent, SentUpTo}
+use Rattle.emu_top.specs.Running.{BreaksOff, IsEnd}
+use Rattle.emu_top.specs.Sending.{sent}
 use Rattle.emu_top.specs.Told.{Rose}
 use Rattle.emu_top.specs.View.{view}
 
@@ -109,7 +109,7 @@ pub record CoreFinishes {D : Type 0} (held : D → Option (List ℕ)) (core : Ma
 abbrev pub CoreStops : {D : Type 0} → (D → Option (List ℕ)) → (D → ℕ) → Machine → ℕ → List D → Halt → History → List D → Type 0
 CoreStops held writes core budget before (halts.Device device) journal after =
     (last : Machine) × RunsFrom core budget journal last
-    × SentUpTo (map held before) last.shared.outputs device (map held after)
+    × BreaksOff core journal.events last.shared.outputs device (map held before) (map held after)
     × (device < length before)
     × Rose (slice_index (map writes before) device) (slice_index (map writes after) device)
 CoreStops held writes core budget before halts.Memory journal after =
@@ -121,12 +121,13 @@ pub record Untouched {D : Type 0} (before : List D) (journal : History) (after :
   pub no_budget : journal.budget ≡ 0
   pub devices : after ≡ before
 
--- a run that a device stopped: it holds a beginning of its output, and each other device all of its own
+-- A run that a device stopped at its last event, which wrote to it: it holds a beginning of its output, with all that was
+-- written before that event, and each other device all of its own.
 pub record StoppedBy {D : Type 0} (held : D → Option (List ℕ)) (writes : D → ℕ) (device : ℕ) (tree : Option (List Entry)) (words : List (List ℕ)) (before : List D) (journal : History) (after : List D) : Type 0 where
   pub last : Machine
   pub process : ProcessState
   pub journeys : Journeys tree words (length before) journal last process
-  pub sent_up_to : SentUpTo (map held before) (seen_outputs process) device (map held after)
+  pub breaks_off : BreaksOff (started (launched journeys.asked journeys.elf) (length before)) journal.events (seen_outputs process) device (map held before) (map held after)
   pub is_device : device < length before
   pub rose : Rose (slice_index (map writes before) device) (slice_index (map writes after) device)
 

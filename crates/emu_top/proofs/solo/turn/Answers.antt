@@ -1,4 +1,4 @@
-use Rattle.std.proofs.Common.{map, arith}
+use Rattle.std.proofs.Common.{map, sym, arith}
 use Rattle.guest_core.specs.declared.events.Event.TheVariants.{Step}
 use Rattle.guest_core.specs.Machine.{first_thread}
 use Rattle.guest_core.specs.Growth.{lengthens, Lengthened}
@@ -40,4 +40,5 @@ returns-in-Err-send-clause-halted g c =
         within = omega (arith, c.in-Some.ensures.within, c.in-Err-send.ensures.count, c.requires.devices);
         rose = c.in-Err-send.ensures.rose;
       },
+      sym c.in-Some.ensures.device,
     )
