@@ -1,5 +1,5 @@
 -- Where the words name a file that starts and no count rose, only want of memory is left.
-use Rattle.std.proofs.Common.{◌≡◌, ℕ, ◌≤◌, ◌<◌, List, map, Option, Some, None, Ok, Err, refl, ap, sym, subst, ◌∙◌, arith}
+use Rattle.std.proofs.Common.{◌≡◌, ℕ, ◌≤◌, ◌<◌, List, map, Option, Some, None, Ok, Err, ◌⊎◌, inl, inr, refl, ap, sym, subst, ◌∙◌, arith}
 use Rattle.elf_file.specs.declared.fault.ElfFault.{ElfFault}
 use Rattle.elf_file.specs.Reading.{Image, reading}
 use Rattle.cli_words.specs.Command.{Asked, IsAsked, asked_by}
@@ -18,7 +18,7 @@ use Rattle.emu_top.specs.Journal.{History}
 use Rattle.emu_top.specs.Notes.{TellsFault}
 use Rattle.emu_top.specs.Solo.{HasProgram, IsCaused, Faults, args_of, launched}
 use Rattle.emu_top.proofs.TopFacts.{faults}
-use Rattle.emu_top.specs.Complete.{Starts, Names, IsRunnable, NoneRose}
+use Rattle.emu_top.specs.Complete.{Starts, Names, IsRunnable, NoneRose, ReadsStill}
 
 -- the words ask for one thing
 same_asked : (words : List (List ℕ)) (one other : Asked) → IsAsked words one → IsAsked words other → one ≡ other
@@ -95,3 +95,32 @@ complete held writes told note_writes (Some entries) reads_before reads_after wo
 pub complete_told : {D K : Type 0} (held : D → Option (List ℕ)) (writes : D → ℕ) (told : K → Option (List ℕ)) (note_writes : K → ℕ) (tree : Option (List Entry)) (reads_before reads_after : ℕ) (words : List (List ℕ)) (before : List D) (notes_before notes_after : K) (cause answered : Cause) (journal : History) (after : List D) → IsCaused held writes tree reads_before reads_after words before cause journal after → TellsFault told note_writes cause notes_before notes_after answered → IsRunnable tree words → NoneRose writes note_writes reads_before reads_after before after notes_before notes_after → answered ≡ causes.Memory
 complete_told held writes told note_writes tree reads_before reads_after words before notes_before notes_after cause answered journal after caused tells =
     complete held writes told note_writes tree reads_before reads_after words before notes_before notes_after answered journal after (faults held writes told note_writes tree reads_before reads_after words before notes_before notes_after cause answered journal after caused tells)
+
+-- ---- no failed read is passed over
+
+told_by : {X Y : Type 0} (cause answered : Cause) (reads_before reads_after : ℕ) → ReadsStill cause reads_before reads_after → ((answered ≡ cause) × X) ⊎ ((answered ≡ causes.Memory) × Y) → ReadsStill answered reads_before reads_after
+told_by cause answered reads_before reads_after still (inl tells) = subst (λ (c : Cause). ReadsStill c reads_before reads_after) (sym tells.0) still
+told_by cause answered reads_before reads_after still (inr forgets) = subst (λ (c : Cause). ReadsStill c reads_before reads_after) (sym forgets.0) tt
+
+-- also where its line was tried
+pub still_told : {K : Type 0} (told : K → Option (List ℕ)) (note_writes : K → ℕ) (cause answered : Cause) (notes_before notes_after : K) (reads_before reads_after : ℕ) → ReadsStill cause reads_before reads_after → TellsFault told note_writes cause notes_before notes_after answered → ReadsStill answered reads_before reads_after
+still_told told note_writes (causes.Usage word) answered notes_before notes_after reads_before reads_after still tells = told_by (causes.Usage word) answered reads_before reads_after still tells
+still_told told note_writes (causes.NoProgram program) answered notes_before notes_after reads_before reads_after still tells = told_by (causes.NoProgram program) answered reads_before reads_after still tells
+still_told told note_writes (causes.Elf fault) answered notes_before notes_after reads_before reads_after still tells = told_by (causes.Elf fault) answered reads_before reads_after still tells
+still_told told note_writes (causes.StackTooLong size) answered notes_before notes_after reads_before reads_after still tells = told_by (causes.StackTooLong size) answered reads_before reads_after still tells
+still_told told note_writes (causes.PagesFull wanted) answered notes_before notes_after reads_before reads_after still tells = told_by (causes.PagesFull wanted) answered reads_before reads_after still tells
+still_told told note_writes (causes.ReadFault part) answered notes_before notes_after reads_before reads_after still tells = told_by (causes.ReadFault part) answered reads_before reads_after still tells
+still_told told note_writes (causes.WriteFault part) answered notes_before notes_after reads_before reads_after still tells = told_by (causes.WriteFault part) answered reads_before reads_after still tells
+still_told told note_writes causes.Memory answered notes_before notes_after reads_before reads_after still tells =
+    subst (λ (c : Cause). ReadsStill c reads_before reads_after) (sym tells.0) tt
+
+-- where their count stands still, any cause will do
+pub still_as : (cause : Cause) (reads_before reads_after : ℕ) → reads_after ≡ reads_before → ReadsStill cause reads_before reads_after
+still_as (causes.Usage word) reads_before reads_after still = still
+still_as (causes.NoProgram program) reads_before reads_after still = still
+still_as (causes.Elf fault) reads_before reads_after still = still
+still_as (causes.StackTooLong size) reads_before reads_after still = still
+still_as (causes.PagesFull wanted) reads_before reads_after still = still
+still_as (causes.ReadFault part) reads_before reads_after still = tt
+still_as (causes.WriteFault part) reads_before reads_after still = still
+still_as causes.Memory reads_before reads_after still = tt

@@ -1,6 +1,6 @@
--- Each event's labels are steps of the process machine, from the view before it to the view after it. One lemma a row.
-use Rattle.std.proofs.Common.{◌≡◌, ℕ, ◌==◌, ◌&&◌, Bool, true, false, cond, is_none, ℤ, List, [], ◌∷◌, ◌++◌, Option, Some, None, refl, ap, sym, ◌∙◌, subst, arith}
-use Rattle.std.proofs.lemmas.Bool.Decides.{nat_tests}
+-- Each event's labels are steps of the process machine, from the view before it to the view after it. One lemma a row, over
+-- what the thread's step sees.
+use Rattle.std.proofs.Common.{◌≡◌, ℕ, Bool, true, false, cond, is_none, ℤ, List, [], ◌∷◌, ◌++◌, Option, Some, None, refl, ap, sym, ◌∙◌, subst}
 use Rattle.guest_core.specs.declared.ends.End.{End}
 use Rattle.guest_core.specs.declared.events.Event.{Event}
 use Rattle.guest_core.specs.declared.events.Event.TheVariants.{Step}
@@ -9,44 +9,69 @@ use Rattle.guest_core.specs.declared.places.Place.TheVariants.{Loop, Start, Wind
 use Rattle.guest_core.specs.declared.queue.Instance.{Instance}
 use Rattle.isa_exec.specs.declared.registers.Regs.{Regs}
 use Rattle.guest_core.specs.Call as call
-use Rattle.guest_core.specs.Event.{is_enabled, event_after, run}
+use Rattle.guest_core.specs.Event.{event_after, run}
 use Rattle.guest_core.specs.Instruction as instruction
-use Rattle.guest_core.specs.Kept.{Keeps}
-use Rattle.guest_core.specs.Machine.{Shared, Machine, due, is_live}
+use Rattle.guest_core.specs.Kept.{Keeps, KeepsThread}
+use Rattle.guest_core.specs.Machine.{Shared, Machine, Context, alone}
 use Rattle.guest_core.specs.Pending.{first_of, is_empty}
-use Rattle.guest_core.specs.Rows.{Row, Note, Take, ClearFlag, Execute, Check, Enter, Return, row_of, done, noted_at, noted, taken, flag_cleared, after, executed, checked, after_call, entered, returned, stepped, ticked}
+use Rattle.guest_core.specs.Rows.{Row, Note, Take, ClearFlag, Execute, Check, Enter, Return, due_now, instruction_of, row_of, done, noted_at, noted, taken, flag_cleared, after, executed, checked, after_call, entered, returned, stepped, ticked}
 use Rattle.guest_core.specs.Start.{Program, started}
-use Rattle.guest_core.proofs.KeptFacts.{Fits, row_fits, tick_keeps, step_keeps}
+use Rattle.guest_core.proofs.AheadFacts.{event_keeps}
+use Rattle.guest_core.proofs.AloneFacts.{here, moved_is, only}
+use Rattle.guest_core.proofs.KeptFacts.{Fits, row_fits, tick_keeps}
+use Rattle.guest_core.proofs.Noted.{same_id}
 use Rattle.guest_core.proofs.StartFacts.{start_keeps}
 use Rattle.linux_model.specs.declared.labels.Label.{Label}
 use Rattle.linux_model.specs.declared.labels.Label.TheVariants as label
-use Rattle.linux_model.specs.Process.{ProcessState, begun}
+use Rattle.linux_model.specs.Process.{ProcessState, TaskContext, begun, task_at}
+use Rattle.linux_model.specs.Process as task
 use Rattle.linux_model.specs.Steps as process
 use Rattle.linux_model.proofs.FollowFacts.{follow_append}
-use Rattle.emu_top.specs.View.{shown_regs, view}
-use Rattle.emu_top.specs.Labels.{instruction_labels, row_labels, labels_of, run_labels}
+use Rattle.emu_top.specs.View.{shown_regs, view, view_of}
+use Rattle.emu_top.specs.Labels.{instruction_labels, row_labels, labels_as, labels_of, run_labels, step_labels}
 
--- the row's labels lead from the view before it to the view after it
-abbrev Simulates : ℕ → Row → Machine → Type 0
-Simulates thread row machine = process.follow (Some (view machine)) (row_labels thread row machine) ≡ Some (view (done thread row machine))
+-- ---- labels of a thread
 
--- a state at a place, of a process that lives
-abbrev at : Shared → Regs → Place → Bool → List ℕ → Machine
-at shared regs place flag noted = record {
+-- what a label of the thread does
+abbrev acted : Label → TaskContext → Option TaskContext
+acted (label.Instr thread) context = process.makes_instruction context
+acted (label.Call thread) context = process.makes_call context
+acted (label.Take thread id) context = process.takes id context
+acted label.Tick context = None
+
+abbrev acts : List Label → TaskContext → Option TaskContext
+acts [] context = Some context
+acts (one ∷ []) context = acted one context
+acts (one ∷ other ∷ labels) context = None
+
+-- the label is the thread's
+abbrev IsOf : ℕ → Label → Type 0
+IsOf id (label.Instr thread) = thread ≡ id
+IsOf id (label.Call thread) = thread ≡ id
+IsOf id (label.Take thread instance) = thread ≡ id
+IsOf id label.Tick = ⊥
+
+abbrev AreOf : ℕ → List Label → Type 0
+AreOf id [] = Unit {0}
+AreOf id (one ∷ labels) = IsOf id one × AreOf id labels
+
+-- ---- a row's labels lead from what is shown before it to what is shown after it
+
+abbrev Simulates : Row → Context → Type 0
+Simulates row context = acts (row_labels row context) (view_of context) ≡ Some (view_of (done row context))
+
+-- a thread at a place, of a process that lives
+abbrev at : Shared → ℕ → Regs → Place → Bool → List ℕ → Context
+at shared id regs place flag noted = record {
   shared = shared;
-  regs = regs;
-  place = place;
-  flag = flag;
-  noted = noted;
+  thread = record { id = id; regs = regs; place = place; flag = flag; noted = noted };
   end = None;
 }
 
-written_out : (machine : Machine) (place : Place) → machine.place ≡ place → machine.end ≡ None → machine ≡ at machine.shared machine.regs place machine.flag machine.noted
-written_out machine place stands lives =
-    ap (λ (p : Place). record { shared = machine.shared; regs = machine.regs; place = p; flag = machine.flag; noted = machine.noted; end = machine.end }) stands
-    ∙ ap (λ (e : Option End). record { shared = machine.shared; regs = machine.regs; place = place; flag = machine.flag; noted = machine.noted; end = e }) lives
-
--- ---- one lemma a row
+written_out : (context : Context) (place : Place) → context.thread.place ≡ place → context.end ≡ None → context ≡ at context.shared context.thread.id context.thread.regs place context.thread.flag context.thread.noted
+written_out context place stands lives =
+    ap (λ (p : Place). record { shared = context.shared; thread = record context.thread { place = p }; end = context.end }) stands
+    ∙ ap (λ (e : Option End). record { shared = context.shared; thread = record context.thread { place = place }; end = e }) lives
 
 noted_shows : (place : Place) (regs : Regs) → shown_regs place regs ≡ shown_regs (noted_at place) regs
 noted_shows Loop regs = refl
@@ -54,117 +79,148 @@ noted_shows Start regs = refl
 noted_shows Window regs = refl
 noted_shows (Done answer) regs = refl
 
-note_simulates : (thread : ℕ) (instance : Instance) (machine : Machine) → Simulates thread (Note instance) machine
+note_simulates : (instance : Instance) (context : Context) → Simulates (Note instance) context
 unfolding noted
-note_simulates thread instance machine =
-    ap (λ (regs : Regs). Some (record { shared = machine.shared; regs = regs; end = machine.end })) (noted_shows machine.place machine.regs)
+note_simulates instance context =
+    ap (λ (regs : Regs). Some (record { shared = context.shared; task = record { id = context.thread.id; regs = regs }; end = context.end })) (noted_shows context.thread.place context.thread.regs)
 
-same_id : (n : ℕ) → (n == n) ≡ true
-same_id n = grind (arith, nat_tests)
+take_simulates : (instance : Instance) (context : Context) → first_of (due_now context) ≡ Some instance → Simulates (Take instance) context
+unfolding taken process.takes
+take_simulates instance context first = rw (first, same_id instance.id) refl
 
-take_simulates : (thread : ℕ) (instance : Instance) (machine : Machine) → is_live thread ≡ true → machine.end ≡ None → first_of (due machine.shared) ≡ Some instance → Simulates thread (Take instance) machine
-unfolding taken process.step
-take_simulates thread instance machine live lives first = rw (lives, live, first, same_id instance.id) refl
-
-clear_simulates : (thread : ℕ) (machine : Machine) → Simulates thread ClearFlag machine
+clear_simulates : (context : Context) → Simulates ClearFlag context
 unfolding flag_cleared
-clear_simulates thread machine = refl
+clear_simulates context = refl
 
-execute_by : (thread : ℕ) (outcome : instruction.Outcome) (shared : Shared) (regs : Regs) (flag : Bool) (noted : List ℕ) → is_live thread ≡ true → instruction.instruction thread regs shared.memory shared.held ≡ outcome → shared.pending ≡ [] → process.follow (Some (record { shared = shared; regs = regs; end = None })) (instruction_labels thread outcome) ≡ Some (view (after outcome (at shared regs Loop flag noted)))
-unfolding process.step
-execute_by thread (instruction.Outcome.Runs new memory held) shared regs flag noted live is none = rw (live, none, is) refl
-execute_by thread instruction.Outcome.Calls shared regs flag noted live is none = refl
-execute_by thread (instruction.Outcome.Faults fault) shared regs flag noted live is none = rw (live, none, is) refl
+execute_by : (outcome : instruction.Outcome) (shared : Shared) (id : ℕ) (regs : Regs) (flag : Bool) (noted : List ℕ) → instruction.instruction id regs shared.memory shared.held ≡ outcome → shared.pending ≡ [] → acts (instruction_labels id outcome) (view_of (at shared id regs Loop flag noted)) ≡ Some (view_of (after outcome (at shared id regs Loop flag noted)))
+unfolding process.makes_instruction
+execute_by (instruction.Outcome.Runs new memory held) shared id regs flag noted is none = rw (none, is) refl
+execute_by instruction.Outcome.Calls shared id regs flag noted is none = refl
+execute_by (instruction.Outcome.Faults fault) shared id regs flag noted is none = rw (none, is) refl
 
-execute_at : (thread : ℕ) (shared : Shared) (regs : Regs) (flag : Bool) (noted : List ℕ) → is_live thread ≡ true → shared.pending ≡ [] → Simulates thread Execute (at shared regs Loop flag noted)
+execute_at : (shared : Shared) (id : ℕ) (regs : Regs) (flag : Bool) (noted : List ℕ) → shared.pending ≡ [] → Simulates Execute (at shared id regs Loop flag noted)
 unfolding executed
-execute_at thread shared regs flag noted live none = execute_by thread (instruction.instruction thread regs shared.memory shared.held) shared regs flag noted live refl none
+execute_at shared id regs flag noted none = execute_by (instruction.instruction id regs shared.memory shared.held) shared id regs flag noted refl none
 
-check_at : (thread : ℕ) (shared : Shared) (regs : Regs) (flag : Bool) (noted : List ℕ) → Simulates thread Check (at shared regs Start flag noted)
+check_at : (shared : Shared) (id : ℕ) (regs : Regs) (flag : Bool) (noted : List ℕ) → Simulates Check (at shared id regs Start flag noted)
 unfolding checked
-check_at thread shared regs true noted = refl
-check_at thread shared regs false noted = refl
+check_at shared id regs true noted = refl
+check_at shared id regs false noted = refl
 
-call_by : (outcome : call.Outcome) (new shared : Shared) (regs : Regs) (flag : Bool) (noted : List ℕ) → process.call_done (record { shared = new; outcome = outcome }) (record { shared = shared; regs = regs; end = None }) ≡ view (after_call (record { shared = new; outcome = outcome }) (at shared regs Window flag noted))
-call_by (call.Outcome.Answers answer) new shared regs flag noted = refl
-call_by (call.Outcome.Ends end) new shared regs flag noted = refl
+call_by : (outcome : call.Outcome) (new shared : Shared) (id : ℕ) (regs : Regs) (flag : Bool) (noted : List ℕ) → process.call_done (record { shared = new; outcome = outcome }) (view_of (at shared id regs Window flag noted)) ≡ view_of (after_call (record { shared = new; outcome = outcome }) (at shared id regs Window flag noted))
+call_by (call.Outcome.Answers answer) new shared id regs flag noted = refl
+call_by (call.Outcome.Ends end) new shared id regs flag noted = refl
 
-enter_at : (thread : ℕ) (shared : Shared) (regs : Regs) (flag : Bool) (noted : List ℕ) → is_live thread ≡ true → instruction.instruction thread regs shared.memory shared.held ≡ instruction.Outcome.Calls → shared.pending ≡ [] → Simulates thread Enter (at shared regs Window flag noted)
-unfolding entered process.step
-enter_at thread shared regs flag noted live is none =
-    let called = call.called thread regs shared in
+enter_at : (shared : Shared) (id : ℕ) (regs : Regs) (flag : Bool) (noted : List ℕ) → instruction.instruction id regs shared.memory shared.held ≡ instruction.Outcome.Calls → shared.pending ≡ [] → Simulates Enter (at shared id regs Window flag noted)
+unfolding entered process.makes_call
+enter_at shared id regs flag noted is none =
+    let called = call.called id regs shared in
     let empty : is_empty shared.pending ≡ true = ap (λ (pending : List Instance). is_empty pending) none in
-    rw (live, empty, is) (ap (λ (p : ProcessState). Some p) (call_by called.outcome called.shared shared regs flag noted))
+    rw (empty, is) (ap (λ (context : TaskContext). Some context) (call_by called.outcome called.shared shared id regs flag noted))
 
-return_at : (thread : ℕ) (answer : ℤ) (shared : Shared) (regs : Regs) (flag : Bool) (noted : List ℕ) → Simulates thread (Return answer) (at shared regs (Done answer) flag noted)
+return_at : (answer : ℤ) (shared : Shared) (id : ℕ) (regs : Regs) (flag : Bool) (noted : List ℕ) → Simulates (Return answer) (at shared id regs (Done answer) flag noted)
 unfolding returned
-return_at thread answer shared regs flag noted = refl
+return_at answer shared id regs flag noted = refl
 
-row_simulates : (thread : ℕ) (row : Row) (machine : Machine) → Keeps machine → is_live thread ≡ true → machine.end ≡ None → Fits row machine → Simulates thread row machine
-row_simulates thread (Note instance) machine keeps live lives fits = note_simulates thread instance machine
-row_simulates thread (Take instance) machine keeps live lives fits = take_simulates thread instance machine live lives fits.1
-row_simulates thread ClearFlag machine keeps live lives fits = clear_simulates thread machine
-row_simulates thread Execute machine keeps live lives fits =
-    subst (Simulates thread Execute) (sym (written_out machine Loop fits.0 lives)) (execute_at thread machine.shared machine.regs machine.flag machine.noted live fits.2)
-row_simulates thread Check machine keeps live lives fits =
-    subst (Simulates thread Check) (sym (written_out machine Start fits lives)) (check_at thread machine.shared machine.regs machine.flag machine.noted)
-row_simulates thread Enter machine keeps live lives fits =
-    let called = keeps.at_call (λ loop. let window = fits.0 in cc) thread in
-    subst (Simulates thread Enter) (sym (written_out machine Window fits.0 lives)) (enter_at thread machine.shared machine.regs machine.flag machine.noted live called fits.1)
-row_simulates thread (Return answer) machine keeps live lives fits =
-    subst (Simulates thread (Return answer)) (sym (written_out machine (Done answer) fits lives)) (return_at thread answer machine.shared machine.regs machine.flag machine.noted)
+row_simulates : (row : Row) (context : Context) → KeepsThread context → context.end ≡ None → Fits row context → Simulates row context
+row_simulates (Note instance) context keeps lives fits = note_simulates instance context
+row_simulates (Take instance) context keeps lives fits = take_simulates instance context fits.1
+row_simulates ClearFlag context keeps lives fits = clear_simulates context
+row_simulates Execute context keeps lives fits =
+    subst (Simulates Execute) (sym (written_out context Loop fits.0 lives)) (execute_at context.shared context.thread.id context.thread.regs context.thread.flag context.thread.noted fits.2)
+row_simulates Check context keeps lives fits =
+    subst (Simulates Check) (sym (written_out context Start fits lives)) (check_at context.shared context.thread.id context.thread.regs context.thread.flag context.thread.noted)
+row_simulates Enter context keeps lives fits =
+    let called = keeps.at_call (λ loop. let window = fits.0 in cc) context.thread.id in
+    subst (Simulates Enter) (sym (written_out context Window fits.0 lives)) (enter_at context.shared context.thread.id context.thread.regs context.thread.flag context.thread.noted called fits.1)
+row_simulates (Return answer) context keeps lives fits =
+    subst (Simulates (Return answer)) (sym (written_out context (Done answer) fits lives)) (return_at answer context.shared context.thread.id context.thread.regs context.thread.flag context.thread.noted)
+
+instruction_are_of : (id : ℕ) (outcome : instruction.Outcome) → AreOf id (instruction_labels id outcome)
+instruction_are_of id (instruction.Outcome.Runs regs memory held) = (refl, tt)
+instruction_are_of id instruction.Outcome.Calls = tt
+instruction_are_of id (instruction.Outcome.Faults fault) = (refl, tt)
+
+-- they are that thread's
+row_are_of : (row : Row) (context : Context) → AreOf context.thread.id (row_labels row context)
+row_are_of (Note instance) context = tt
+row_are_of (Take instance) context = (refl, tt)
+row_are_of ClearFlag context = tt
+row_are_of Execute context = instruction_are_of context.thread.id (instruction_of context)
+row_are_of Check context = tt
+row_are_of Enter context = (refl, tt)
+row_are_of (Return answer) context = tt
+
+-- ---- a process with that thread alone
+
+task_here : (context : TaskContext) → task_at context.task.id (task.alone context).tasks ≡ Some context.task
+task_here context = rw (same_id context.task.id) refl
+
+put_alone : (context next : TaskContext) → task.with_context context.task.id next (task.alone context) ≡ task.alone next
+put_alone context next = rw (same_id context.task.id) refl
+
+by_alone : (act : TaskContext → Option TaskContext) (context next : TaskContext) (id : ℕ) → id ≡ context.task.id → act context ≡ Some next → process.by_task id act (task_at id (task.alone context).tasks) (task.alone context) ≡ Some (task.alone next)
+by_alone act context next id this is =
+    ap (λ (n : ℕ). process.by_task n act (task_at n (task.alone context).tasks) (task.alone context)) this
+    ∙ ap (λ found. process.by_task context.task.id act found (task.alone context)) (task_here context)
+    ∙ ap (λ result. process.gone_on context.task.id result (task.alone context)) is
+    ∙ ap Some (put_alone context next)
+
+allowed_alone : (one : Label) (context next : TaskContext) → IsOf context.task.id one → acted one context ≡ Some next → process.allowed one (task.alone context) ≡ Some (task.alone next)
+allowed_alone (label.Instr thread) context next this is = by_alone process.makes_instruction context next thread this is
+allowed_alone (label.Call thread) context next this is = by_alone process.makes_call context next thread this is
+allowed_alone (label.Take thread id) context next this is = by_alone (process.takes id) context next thread this is
+allowed_alone label.Tick context next this is = absurd this
+
+step_alone : (one : Label) (context next : TaskContext) → context.end ≡ None → IsOf context.task.id one → acted one context ≡ Some next → process.step (task.alone context) one ≡ Some (task.alone next)
+unfolding process.step
+step_alone one context next lives this is =
+    ap (λ (end : Option End). cond (is_none end) (process.allowed one (task.alone context)) None) lives
+    ∙ allowed_alone one context next this is
+
+follow_alone : (labels : List Label) (context next : TaskContext) → context.end ≡ None → AreOf context.task.id labels → acts labels context ≡ Some next → process.follow (Some (task.alone context)) labels ≡ Some (task.alone next)
+follow_alone [] context next lives these is =
+    let same : context ≡ next = cc in
+    ap (λ (of : TaskContext). Some (task.alone of)) same
+follow_alone (one ∷ []) context next lives these is = step_alone one context next lives these.0 is
+follow_alone (one ∷ other ∷ labels) context next lives these is = cc
 
 -- ---- an event
 
-tick_shows : (machine : Machine) (labels : List Label) → machine.end ≡ None → process.follow (Some (view machine)) (label.Tick ∷ labels) ≡ process.follow (Some (view (ticked machine))) labels
+tick_shows : (context : Context) → context.end ≡ None → process.step (task.alone (view_of context)) label.Tick ≡ Some (task.alone (view_of (ticked context)))
 unfolding ticked process.step
-tick_shows machine labels lives = rw lives refl
+tick_shows context lives = ap (λ (end : Option End). cond (is_none end) (Some (task.alone (view_of (ticked context)))) None) lives
 
-lives_on : (machine : Machine) → machine.end ≡ None → (ticked machine).end ≡ None
+lives_on : (context : Context) → context.end ≡ None → (ticked context).end ≡ None
 unfolding ticked
-lives_on machine lives = lives
+lives_on context lives = lives
 
-step_simulates : (machine : Machine) (thread : ℕ) → Keeps machine → is_live thread ≡ true → machine.end ≡ None → process.follow (Some (view machine)) (labels_of machine (Step thread)) ≡ Some (view (stepped thread (ticked machine)))
-unfolding labels_of stepped
-step_simulates machine thread keeps live lives =
-    let next = tick_keeps machine keeps in
-    tick_shows machine (row_labels thread (row_of (ticked machine)) (ticked machine)) lives
-    ∙ row_simulates thread (row_of (ticked machine)) (ticked machine) next live (lives_on machine lives) (row_fits (ticked machine) next)
+step_simulates : (context : Context) → KeepsThread context → context.end ≡ None → process.follow (Some (view (alone context))) (step_labels context) ≡ Some (view (alone (stepped (ticked context))))
+unfolding step_labels stepped
+step_simulates context keeps lives =
+    let now = ticked context in
+    let kept = tick_keeps context keeps in
+    let row = row_of now in
+    ap (λ state. process.follow state (row_labels row now)) (tick_shows context lives)
+    ∙ follow_alone (row_labels row now) (view_of now) (view_of (done row now)) (lives_on context lives) (row_are_of row now)
+    (row_simulates row now kept (lives_on context lives) (row_fits now kept))
 
--- what is known of an event that happened
-record Happened (thread : ℕ) (old new : Machine) : Type 0 where
-  live : is_live thread ≡ true
-  lives : old.end ≡ None
-  stepped_to : stepped thread (ticked old) ≡ new
+labels_here : (id : ℕ) (context : Context) → context.thread.id ≡ id → labels_of (alone context) (Step id) ≡ step_labels context
+unfolding labels_of
+labels_here id context this = rw (← this) (ap (λ found. labels_as found (alone context)) (here context))
 
-none_of : {X : Type 0} (o : Option X) → is_none o ≡ true → o ≡ None
-none_of None is = refl
-none_of (Some x) is = cc
-
-both_by : (first second : Bool) → (first && second) ≡ true → (first ≡ true) × (second ≡ true)
-both_by true second both = (refl, both)
-both_by false second both = cc
-
-happened_by : (test : Bool) (old new next : Machine) → cond test (Some next) None ≡ Some new → (test ≡ true) × (next ≡ new)
-happened_by true old new next same = (refl, cc)
-happened_by false old new next same = cc
-
-happened : (thread : ℕ) (old new : Machine) → event_after old (Step thread) ≡ Some new → Happened thread old new
-unfolding event_after
-happened thread old new same =
-    let facts = happened_by (is_enabled old (Step thread)) old new (stepped thread (ticked old)) same in
-    let both = both_by (is_none old.end) (is_live thread) facts.0 in
-    record { live = both.1; lives = none_of old.end both.0; stepped_to = facts.1 }
-
-event_keeps : (event : Event) (old new : Machine) → Keeps old → event_after old event ≡ Some new → Keeps new
-event_keeps (Step thread) old new keeps same =
-    let facts = happened thread old new same in
-    subst Keeps facts.stepped_to (step_keeps thread old keeps)
+alone_simulates : (id : ℕ) (context : Context) (new : Machine) → KeepsThread context → event_after (alone context) (Step id) ≡ Some new → process.follow (Some (view (alone context))) (labels_of (alone context) (Step id)) ≡ Some (view new)
+alone_simulates id context new keeps same =
+    let moved = moved_is context id new same in
+    ap (process.follow (Some (view (alone context)))) (labels_here id context moved.this)
+    ∙ step_simulates context keeps moved.lives
+    ∙ ap (λ (m : Machine). Some (view m)) moved.next_is
 
 event_simulates : (event : Event) (old new : Machine) → Keeps old → event_after old event ≡ Some new → process.follow (Some (view old)) (labels_of old event) ≡ Some (view new)
-event_simulates (Step thread) old new keeps same =
-    let facts = happened thread old new same in
-    step_simulates old thread keeps facts.live facts.lives ∙ ap (λ (m : Machine). Some (view m)) facts.stepped_to
+event_simulates (Step id) old new keeps same =
+    let one = only old keeps in
+    subst (λ (m : Machine). process.follow (Some (view m)) (labels_of m (Step id)) ≡ Some (view new)) one.is
+    (alone_simulates id one.context new one.keeps (ap (λ (m : Machine). event_after m (Step id)) one.is ∙ same))
 
 -- ---- a run
 

@@ -24,6 +24,7 @@ pub record SoFar {D : Type 0} (held : D → Option (List ℕ)) (writes : D → �
   pub devices : length now.devices.items ≡ length first.devices.items
   pub outputs : length now.core.shared.outputs ≡ length first.core.shared.outputs
   pub none_fell : NoneFell (map writes first.devices.items) (map writes now.devices.items)
+  pub still : map writes now.devices.items ≡ map writes first.devices.items
 
 ran_on : {D : Type 0} (first now next : Run D) → run (Some first.core) now.journal.events ≡ Some now.core → Makes now.core now.journal.events next.core next.journal.events → run (Some first.core) next.journal.events ≡ Some next.core
 ran_on first now next ran makes =
@@ -50,6 +51,7 @@ so_far_ahead {D = D} held writes first now next limit so_far ahead room = record
   devices = ap (λ (devices : Vec D Global). length devices.items) ahead.devices ∙ so_far.devices;
   outputs = ap length ahead.outputs ∙ so_far.outputs;
   none_fell = rw ahead.devices so_far.none_fell;
+  still = rw ahead.devices so_far.still;
 }
 
 ran_more : {D : Type 0} (first now next : Run D) → run (Some first.core) now.journal.events ≡ Some now.core → Stepped now next → run (Some first.core) next.journal.events ≡ Some next.core
@@ -78,10 +80,11 @@ fell_on first now next before after = λ place. omega (arith, before place, afte
 rose_on : (first now next : ℕ) → first ≤ now → Rose now next → Rose first next
 rose_on first now next later rose = omega (arith, later, rose)
 
-fails_on : {D : Type 0} (writes : D → ℕ) (device : ℕ) (first now next : Run D) → NoneFell (map writes first.devices.items) (map writes now.devices.items) → FailsAt writes device now next → FailsAt writes device first next
-fails_on writes device first now next fell fails = record {
+fails_on : {D : Type 0} (writes : D → ℕ) (device : ℕ) (first now next : Run D) → NoneFell (map writes first.devices.items) (map writes now.devices.items) → map writes now.devices.items ≡ map writes first.devices.items → FailsAt writes device now next → FailsAt writes device first next
+fails_on writes device first now next fell still fails = record {
   within = fails.within;
   rose = rose_on (slice_index (map writes first.devices.items) device) (slice_index (map writes now.devices.items) device) (slice_index (map writes next.devices.items) device) (fell device) fails.rose;
+  others = λ other apart. fails.others other apart ∙ ap (λ (counts : List ℕ). slice_index counts other) still;
 }
 
 -- a turn was made
@@ -92,6 +95,7 @@ pub record Turned {D : Type 0} (held : D → Option (List ℕ)) (writes : D → 
   pub devices : length next.devices.items ≡ length now.devices.items
   pub outputs : length next.core.shared.outputs ≡ length now.core.shared.outputs
   pub none_fell : NoneFell (map writes now.devices.items) (map writes next.devices.items)
+  pub still : map writes next.devices.items ≡ map writes now.devices.items
 
 pub so_far_turned : {D : Type 0} (held : D → Option (List ℕ)) (writes : D → ℕ) (first now next : Run D) → SoFar held writes first now → Turned held writes now next → length now.journal.events < first.journal.budget → SoFar held writes first next
 so_far_turned held writes first now next so_far turned room = record {
@@ -102,6 +106,7 @@ so_far_turned held writes first now next so_far turned room = record {
   devices = turned.devices ∙ so_far.devices;
   outputs = turned.outputs ∙ so_far.outputs;
   none_fell = fell_on (map writes first.devices.items) (map writes now.devices.items) (map writes next.devices.items) so_far.none_fell turned.none_fell;
+  still = turned.still ∙ so_far.still;
 }
 
 pub turned_longer : {D : Type 0} (held : D → Option (List ℕ)) (writes : D → ℕ) (now next : Run D) → Turned held writes now next → length now.journal.events < length next.journal.events
@@ -116,7 +121,7 @@ stopped_at held writes (halts.Device device) first now next so_far more budget h
     budget = budget ∙ so_far.budget;
   },
   breaks_on held device first now next so_far.outputs so_far.ran so_far.sent halted.0.noted halted.3 halted.1,
-  fails_on writes device first now next so_far.none_fell halted.2,
+  fails_on writes device first now next so_far.none_fell so_far.still halted.2,
 )
 stopped_at held writes halts.Memory first now next so_far more budget halted = (
   record {
@@ -125,6 +130,7 @@ stopped_at held writes halts.Memory first now next so_far more budget halted = (
     budget = budget ∙ so_far.budget;
   },
   λ helds size all. rw (halted.core, halted.devices) (so_far.sent helds size all),
+  rw halted.devices so_far.still,
 )
 
 -- where memory was wanting, the run stopped as it was
@@ -136,4 +142,5 @@ stopped_here held writes first now so_far = (
     budget = so_far.budget;
   },
   so_far.sent,
+  so_far.still,
 )

@@ -2,7 +2,7 @@
 use Rattle.std.proofs.Common.{◌≡◌, ℕ, zero, suc, ◌<◌, ◌≤◌, List, [], ◌∷◌, Option, None, Result, Ok, Err, OnOk, OnErr, map, length, take, get_or, set, slice_index, refl, ap, sym, ◌∙◌, arith}
 use Rattle.std.proofs.lemmas.List.{map-set}
 use Rattle.emu_top.specs.Told.{more, Rose, HoldsBeginning}
-use Rattle.emu_top.specs.Sending.{AreUnread, NoneFell}
+use Rattle.emu_top.specs.Sending.{AreUnread, NoneFell, OthersStill}
 
 -- what is found in a mapped list
 pub map_at : {D X : Type 0} (f : D → X) (devices : List D) (place : ℕ) (device : D) (other : X) → place < length devices → device ≡ get_or devices place device → get_or (map f devices) place other ≡ f device
@@ -40,6 +40,18 @@ pub rose_at : {D E : Type 0} (writes : D → ℕ) (result : Result (Unit {0}) E)
 rose_at writes (Ok done) devices place device new within is rose = rose
 rose_at writes (Err error) devices place device new within is rose =
     rw (map_at writes devices place device 0 within is, set_at writes devices place new 0 within) rose
+
+-- the counts of the other devices stand still
+pub others_still : {D : Type 0} (writes : D → ℕ) (devices : List D) (place : ℕ) (new : D) → OthersStill (map writes devices) (map writes (set devices place new)) place
+others_still writes [] place new = λ other apart. refl
+others_still writes (first ∷ devices) zero new = elim [
+  | zero ↦ λ apart. absurd (apart refl)
+  | suc other ↦ λ apart. refl
+]
+others_still writes (first ∷ devices) (suc place) new = elim [
+  | zero ↦ λ apart. refl
+  | suc other ↦ λ apart. others_still writes devices place new other (λ same. apart (ap suc same))
+]
 
 same_set : {D X : Type 0} (f : D → X) (devices : List D) (place : ℕ) (device new : D) → device ≡ get_or devices place device → f new ≡ f device → map f (set devices place new) ≡ map f devices
 same_set f [] place device new is same = refl

@@ -36,9 +36,10 @@ core_stops held writes (halts.Device device) budget first last is size quiet sam
   stopped.1 (map held first.devices.items) size quiet,
   subst (λ (n : ℕ). device < n) same stopped.2.within,
   stopped.2.rose,
+  stopped.2.others,
 )
 core_stops held writes halts.Memory budget first last is size quiet same stopped =
-    (last.core, runs_from budget first last is stopped.0, stopped.1 (map held first.devices.items) size quiet)
+    (last.core, runs_from budget first last is stopped.0, stopped.1 (map held first.devices.items) size quiet, stopped.2)
 
 pub answer_stops : {D : Type 0} (held : D → Option (List ℕ)) (writes : D → ℕ) (ended : Result End Halt) (budget : ℕ) (first last : Run D) (answer : Result (Finished D) (top.Stopped D)) → first.journal.budget ≡ budget → length (map held first.devices.items) ≡ length first.core.shared.outputs → map held first.devices.items ≡ sent (map held first.devices.items) first.core.shared.outputs → length last.devices.items ≡ length first.devices.items → IfErr ended (λ halt. Stopped held writes halt first last) → IfErr answer (λ f. (ended ≡ Err f.halt) × (f.journal ≡ last.journal) × (f.devices ≡ last.devices)) → IfErr answer (λ f. CoreStops held writes first.core budget first.devices.items f.halt f.journal f.devices.items)
 answer_stops held writes ended budget first last (Ok f) is size quiet same stopped tells = tells
@@ -124,12 +125,14 @@ is_caused held writes tree reads_before reads_after words asked elf core before 
   breaks_off = subst (λ (first : Machine). BreaksOff first journal.events stopped.0.shared.outputs device (map held before) (map held after)) is stopped.2;
   is_device = stopped.3;
   rose = stopped.4;
+  others = stopped.5;
 }
 is_caused held writes tree reads_before reads_after words asked elf core before halts.Memory journal after stopped prepared fit is = inr (record {
   last = stopped.0;
   process = view stopped.0;
   journeys = journeys tree words asked elf (length before) core journal stopped.0 prepared fit is stopped.1;
   all_sent = stopped.2;
+  still = stopped.3;
 })
 
 -- ---- the file's refusal
@@ -152,7 +155,7 @@ gives_fault elf_faults.Memory read gives apart = absurd (apart refl)
 -- ---- the line of a fault
 
 -- what stands of a fault where there was no memory for its line
-forgets : {D : Type 0} (held : D → Option (List ℕ)) (writes : D → ℕ) (tree : Option (List Entry)) (reads_before reads_after : ℕ) (words : List (List ℕ)) (before : List D) (cause : Cause) (journal : History) (after : List D) → IsCaused held writes tree reads_before reads_after words before cause journal after → (Untouched before journal after ⊎ Wants held tree words before journal after) ⊎ ((device : ℕ) × StoppedBy held writes device tree words before journal after)
+forgets : {D : Type 0} (held : D → Option (List ℕ)) (writes : D → ℕ) (tree : Option (List Entry)) (reads_before reads_after : ℕ) (words : List (List ℕ)) (before : List D) (cause : Cause) (journal : History) (after : List D) → IsCaused held writes tree reads_before reads_after words before cause journal after → (Untouched before journal after ⊎ Wants held writes tree words before journal after) ⊎ ((device : ℕ) × StoppedBy held writes device tree words before journal after)
 forgets held writes tree reads_before reads_after words before (causes.Usage word) journal after caused =
     inl (inl caused.1)
 forgets held writes tree reads_before reads_after words before (causes.NoProgram program) journal after caused =

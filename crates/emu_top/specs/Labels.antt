@@ -5,7 +5,7 @@ use Rattle.guest_core.specs.declared.events.Event.{Event}
 use Rattle.guest_core.specs.declared.events.Event.TheVariants.{Step}
 use Rattle.guest_core.specs.Event.{event_after}
 use Rattle.guest_core.specs.Instruction as instruction
-use Rattle.guest_core.specs.Machine.{Machine}
+use Rattle.guest_core.specs.Machine.{Context, Machine, Thread, context_of, thread_at}
 use Rattle.guest_core.specs.Rows as rows
 use Rattle.linux_model.specs.declared.labels.Label.{Label}
 use Rattle.linux_model.specs.declared.labels.Label.TheVariants.{Instr, Call, Take, Tick}
@@ -16,18 +16,25 @@ instruction_labels thread (instruction.Outcome.Runs regs memory held) = Instr th
 instruction_labels thread instruction.Outcome.Calls = []
 instruction_labels thread (instruction.Outcome.Faults fault) = Instr thread ∷ []
 
-abbrev pub row_labels : ℕ → rows.Row → Machine → List Label
-row_labels thread (rows.Row.Note instance) machine = []
-row_labels thread (rows.Row.Take instance) machine = Take thread instance.id ∷ []
-row_labels thread rows.Row.ClearFlag machine = []
-row_labels thread rows.Row.Execute machine = instruction_labels thread (rows.instruction_of thread machine)
-row_labels thread rows.Row.Check machine = []
-row_labels thread rows.Row.Enter machine = Call thread ∷ []
-row_labels thread (rows.Row.Return answer) machine = []
+abbrev pub row_labels : rows.Row → Context → List Label
+row_labels (rows.Row.Note instance) context = []
+row_labels (rows.Row.Take instance) context = Take context.thread.id instance.id ∷ []
+row_labels rows.Row.ClearFlag context = []
+row_labels rows.Row.Execute context = instruction_labels context.thread.id (rows.instruction_of context)
+row_labels rows.Row.Check context = []
+row_labels rows.Row.Enter context = Call context.thread.id ∷ []
+row_labels (rows.Row.Return answer) context = []
+
+-- of a thread's step
+unfoldable pub step_labels : Context → List Label
+step_labels context = let now = rows.ticked context in Tick ∷ row_labels (rows.row_of now) now
+
+abbrev pub labels_as : Option Thread → Machine → List Label
+labels_as None machine = []
+labels_as (Some thread) machine = step_labels (context_of thread machine)
 
 unfoldable pub labels_of : Machine → Event → List Label
-labels_of machine (Step thread) =
-    let now = rows.ticked machine in Tick ∷ row_labels thread (rows.row_of now) now
+labels_of machine (Step id) = labels_as (thread_at id machine.threads) machine
 
 -- the labels of a run's events
 abbrev pub run_labels : Option Machine → List Event → List Label

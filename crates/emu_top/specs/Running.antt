@@ -11,7 +11,7 @@ use Rattle.guest_core.specs.Growth.{lengthens}
 use Rattle.emu_top.specs.declared.solo.Halt.{Halt}
 use Rattle.emu_top.specs.declared.solo.Halt.TheVariants as halts
 use Rattle.emu_top.specs.declared.solo.Run.{Run}
-use Rattle.emu_top.specs.Sending.{sent, SentUpTo}
+use Rattle.emu_top.specs.Sending.{OthersStill, sent, SentUpTo}
 use Rattle.emu_top.specs.Told.{Rose}
 
 -- one step was made, and noted in the journal
@@ -54,10 +54,11 @@ KeepsSentUpTo held device old new =
     → map held old.devices.items ≡ sent helds old.core.shared.outputs
     → SentUpTo helds old.core.shared.outputs new.core.shared.outputs device (map held new.devices.items)
 
--- the device is there, and its count of failed writes rose
+-- the device is there, and its count of failed writes rose, and no other's
 pub record FailsAt {D : Type 0} (writes : D → ℕ) (device : ℕ) (old new : Run D) : Type 0 where
   pub within : device < length new.devices.items
   pub rose : Rose (slice_index (map writes old.devices.items) device) (slice_index (map writes new.devices.items) device)
+  pub others : OthersStill (map writes old.devices.items) (map writes new.devices.items) device
 
 -- why a turn stopped, and what it leaves
 abbrev pub Halted : {D : Type 0} → (D → Option (List ℕ)) → (D → ℕ) → Halt → Run D → Run D → Type 0
@@ -102,4 +103,5 @@ Breaks held device old new =
 -- a run that a fault stopped
 abbrev pub Stopped : {D : Type 0} → (D → Option (List ℕ)) → (D → ℕ) → Halt → Run D → Run D → Type 0
 Stopped held writes (halts.Device device) old new = Ran old new × Breaks held device old new × FailsAt writes device old new
-Stopped held writes halts.Memory old new = Ran old new × KeepsSent held old new
+Stopped held writes halts.Memory old new =
+    Ran old new × KeepsSent held old new × (map writes new.devices.items ≡ map writes old.devices.items)

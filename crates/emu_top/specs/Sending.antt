@@ -1,6 +1,6 @@
 -- What devices hold once the outputs of a run were sent to them.
 -- The project's own.
-use Rattle.std.specs.Prelude.{◌≡◌, ℕ, ◌≤◌, List, [], ◌∷◌, length, map, take, Option, None, slice_index, slice_index_or, slice_set}
+use Rattle.std.specs.Prelude.{◌≡◌, ◌≢◌, ℕ, ◌≤◌, List, [], ◌∷◌, length, map, take, Option, None, slice_index, slice_index_or, slice_set}
 use Rattle.emu_top.specs.Told.{more}
 
 -- each holds what it held, and its output behind that
@@ -18,6 +18,10 @@ SentUpTo helds earlier outputs device after =
 -- no count has fallen
 abbrev pub NoneFell : List ℕ → List ℕ → Type 0
 NoneFell before after = (place : ℕ) → slice_index before place ≤ slice_index after place
+
+-- the counts of all but one are as before
+abbrev pub OthersStill : List ℕ → List ℕ → ℕ → Type 0
+OthersStill before after place = (other : ℕ) → other ≢ place → slice_index after other ≡ slice_index before other
 
 -- nothing was read of devices: they still have to give what they had, and no read of them failed
 pub record AreUnread {D : Type 0} (left : D → Option (List ℕ)) (reads : D → ℕ) (before after : List D) : Type 0 where

@@ -28,7 +28,7 @@ use Rattle.emu_top.specs.Journal.{History}
 use Rattle.emu_top.specs.Labels.{run_labels}
 use Rattle.emu_top.specs.Notes.{end_line, cause_line, Tries, FailsToTell}
 use Rattle.emu_top.specs.Running.{BreaksOff, IsEnd}
-use Rattle.emu_top.specs.Sending.{sent}
+use Rattle.emu_top.specs.Sending.{OthersStill, sent}
 use Rattle.emu_top.specs.Told.{Rose}
 use Rattle.emu_top.specs.View.{view}
 
@@ -112,8 +112,10 @@ CoreStops held writes core budget before (halts.Device device) journal after =
     × BreaksOff core journal.events last.shared.outputs device (map held before) (map held after)
     × (device < length before)
     × Rose (slice_index (map writes before) device) (slice_index (map writes after) device)
+    × OthersStill (map writes before) (map writes after) device
 CoreStops held writes core budget before halts.Memory journal after =
-    (last : Machine) × RunsFrom core budget journal last × (map held after ≡ sent (map held before) last.shared.outputs)
+    (last : Machine) × RunsFrom core budget journal last
+    × (map held after ≡ sent (map held before) last.shared.outputs) × (map writes after ≡ map writes before)
 
 -- nothing was started, and the journal is that of no run: the words may have given no budget
 pub record Untouched {D : Type 0} (before : List D) (journal : History) (after : List D) : Type 0 where
@@ -130,13 +132,15 @@ pub record StoppedBy {D : Type 0} (held : D → Option (List ℕ)) (writes : D �
   pub breaks_off : BreaksOff (started (launched journeys.asked journeys.elf) (length before)) journal.events (seen_outputs process) device (map held before) (map held after)
   pub is_device : device < length before
   pub rose : Rose (slice_index (map writes before) device) (slice_index (map writes after) device)
+  pub others : OthersStill (map writes before) (map writes after) device
 
--- a run that want of memory stopped
-pub record Wants {D : Type 0} (held : D → Option (List ℕ)) (tree : Option (List Entry)) (words : List (List ℕ)) (before : List D) (journal : History) (after : List D) : Type 0 where
+-- a run that want of memory stopped, where no device failed
+pub record Wants {D : Type 0} (held : D → Option (List ℕ)) (writes : D → ℕ) (tree : Option (List Entry)) (words : List (List ℕ)) (before : List D) (journal : History) (after : List D) : Type 0 where
   pub last : Machine
   pub process : ProcessState
   pub journeys : Journeys tree words (length before) journal last process
   pub all_sent : map held after ≡ sent (map held before) (seen_outputs process)
+  pub still : map writes after ≡ map writes before
 
 -- why no start was made. Want of memory is free
 abbrev pub Unprepared : Option (List Entry) → ℕ → ℕ → List (List ℕ) → Cause → Type 0
@@ -167,25 +171,27 @@ IsCaused held writes tree reads_before reads_after words before (causes.WriteFau
 IsCaused held writes tree reads_before reads_after words before (causes.WriteFault parts.Folder) journal after = ⊥
 IsCaused held writes tree reads_before reads_after words before (causes.WriteFault parts.Notes) journal after = ⊥
 IsCaused held writes tree reads_before reads_after words before causes.Memory journal after =
-    Untouched before journal after ⊎ Wants held tree words before journal after
+    Untouched before journal after ⊎ Wants held writes tree words before journal after
 IsCaused held writes tree reads_before reads_after words before cause journal after =
     Unprepared tree reads_before reads_after words cause × Untouched before journal after
 
--- What a run that came to an end may still answer, with the sink: its line couldn't be told, or made.
-pub record Unended {D : Type 0} (held : D → Option (List ℕ)) (tree : Option (List Entry)) (words : List (List ℕ)) (before : List D) (line : List ℕ) (journal : History) (after : List D) : Type 0 where
+-- What a run that came to an end, where no device failed, may still answer, with the sink: its line couldn't be told, or
+-- made.
+pub record Unended {D : Type 0} (held : D → Option (List ℕ)) (writes : D → ℕ) (tree : Option (List Entry)) (words : List (List ℕ)) (before : List D) (line : List ℕ) (journal : History) (after : List D) : Type 0 where
   pub end : End
   pub status : ℕ
   pub finishes : Finishes held tree words before end status journal after
   pub has_line : end_line journal.budget end ≡ Some line
+  pub still : map writes after ≡ map writes before
 
 -- Each cause of a fault, and what it leaves. A fault's line stands on the notes, or a beginning of it where they
 -- failed. Want of memory leaves the notes as they were: it may come before the start, in a run, at the making of an
 -- end's line or of a device's fault.
 abbrev pub Faults : {D K : Type 0} → (D → Option (List ℕ)) → (D → ℕ) → (K → Option (List ℕ)) → (K → ℕ) → Option (List Entry) → ℕ → ℕ → List (List ℕ) → List D → K → K → Cause → History → List D → Type 0
 Faults held writes told note_writes tree reads_before reads_after words before notes_before notes_after (causes.WriteFault parts.Notes) journal after =
-    (line : List ℕ) × Unended held tree words before line journal after × FailsToTell told note_writes line notes_before notes_after
+    (line : List ℕ) × Unended held writes tree words before line journal after × FailsToTell told note_writes line notes_before notes_after
 Faults held writes told note_writes tree reads_before reads_after words before notes_before notes_after causes.Memory journal after =
-    ((Untouched before journal after ⊎ Wants held tree words before journal after) ⊎ ((device : ℕ) × StoppedBy held writes device tree words before journal after)) × (notes_after ≡ notes_before)
+    ((Untouched before journal after ⊎ Wants held writes tree words before journal after) ⊎ ((device : ℕ) × StoppedBy held writes device tree words before journal after)) × (notes_after ≡ notes_before)
 Faults held writes told note_writes tree reads_before reads_after words before notes_before notes_after cause journal after =
     IsCaused held writes tree reads_before reads_after words before cause journal after × Tries told note_writes (cause_line cause) notes_before notes_after
 

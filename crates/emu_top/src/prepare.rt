@@ -1,10 +1,11 @@
 //! From the words and the folder to the file that is to be run.
 
-ghost use Rattle.std.specs.Prelude.{◌≡◌, ◌↔◌, ◌∷◌, ℕ, List, false, IsTrue, map, IfOk, IfErr, OnOk};
+ghost use Rattle.std.specs.Prelude.{◌≡◌, ◌↔◌, ◌∷◌, ℕ, List, false, Err, IsTrue, map, IfOk, IfErr, OnOk};
 ghost use Rattle.cli_words.specs.Answer.{plan_asked};
 ghost use Rattle.cli_words.specs.Command.{IsAsked};
 ghost use Rattle.std.specs.String.{string_bytes};
 ghost use Rattle.elf_file.specs.Reading.{image};
+ghost use Rattle.emu_top.specs.Complete.{ReadsStill};
 ghost use Rattle.emu_top.specs.Files.{NamesFile};
 ghost use Rattle.emu_top.specs.Loading.{IsLaunch, IsLoaded, IsNoProgram, IsUnloaded, IsUnread, NotLoaded, load_fault};
 ghost use Rattle.emu_top.specs.Solo.{is_reserved as reserved, HasProgram, Found, Unprepared};
@@ -41,6 +42,7 @@ pub fn prepare<F: Folder>(alloc: Global, words: &[String], folder: &mut F) -> Re
     ensures cause { IfErr result (Unprepared (F.tree folder.old) (F.failed_reads folder.old) (F.failed_reads folder.new) (map string_bytes words.now)) }
     ensures tree { F.tree folder.new ≡ F.tree folder.old }
     ensures still { OnOk result (F.failed_reads folder.new ≡ F.failed_reads folder.old) }
+    ensures quiet { IfErr result (λ cause. ReadsStill cause (F.failed_reads folder.old) (F.failed_reads folder.new)) }
 {
     let plan = match plan_of(alloc, words) {
         Ok(plan) => plan,
@@ -75,6 +77,7 @@ fn elf_of<F: Folder>(alloc: Global, plan: &Plan, folder: &mut F) -> Result<Elf, 
     ensures cause { IfErr result (IsUnloaded (F.tree folder.old) (F.failed_reads folder.old) (F.failed_reads folder.new) plan.now.program) }
     ensures tree { F.tree folder.new ≡ F.tree folder.old }
     ensures still { OnOk result (F.failed_reads folder.new ≡ F.failed_reads folder.old) }
+    ensures quiet { IfErr result (λ cause. ReadsStill cause (F.failed_reads folder.old) (F.failed_reads folder.new)) }
 {
     let program = plan.program.as_str();
     let bytes = match load(alloc, folder, program) {
@@ -130,6 +133,7 @@ fn load<F: Folder>(alloc: Global, folder: &mut F, program: &str) -> Result<Vec<u
     ensures fault { IfErr result (NotLoaded (F.tree folder.old) (F.failed_reads folder.old) (F.failed_reads folder.new) program.now) }
     ensures tree { F.tree folder.new ≡ F.tree folder.old }
     ensures still { OnOk result (F.failed_reads folder.new ≡ F.failed_reads folder.old) }
+    ensures quiet { result ≡ Err LoadFault.NoProgram → F.failed_reads folder.new ≡ F.failed_reads folder.old }
 {
     let listing = match folder.list(alloc) {
         Ok(listing) => listing,

@@ -5,7 +5,7 @@ ghost use Rattle.guest_core.specs.Event.{event_after};
 ghost use Rattle.guest_core.specs.Machine.{first_thread};
 ghost use Rattle.guest_core.specs.Growth.{lengthens, Lengthened};
 ghost use Rattle.emu_top.specs.Told.{more, Rose};
-ghost use Rattle.emu_top.specs.Sending.{AreUnread, NoneFell};
+ghost use Rattle.emu_top.specs.Sending.{AreUnread, NoneFell, OthersStill};
 ghost use Rattle.emu_top.specs.Running.{WentAhead, Stepped, KeepsSent, Halted, Ended, Stopped};
 
 use crate::device::{Device, DeviceFailed};
@@ -62,6 +62,7 @@ fn send<D: Device>(devices: &mut Vec<D>, device: usize, bytes: &[u8]) -> Result<
     ensures count { length devices.new.items ≡ length devices.old.items }
     ensures unread { AreUnread D.left D.failed_reads devices.old.items devices.new.items }
     ensures still { OnOk result (map D.failed_writes devices.new.items ≡ map D.failed_writes devices.old.items) }
+    ensures others { OthersStill (map D.failed_writes devices.old.items) (map D.failed_writes devices.new.items) device }
 {
     devices[device].take(bytes)
 }
@@ -73,7 +74,7 @@ fn go_ahead<D: Device>(run: &mut Run<D>, limit: u32) -> Result<(), AllocError>
     ensures { WentAhead run.old run.new limit }
 {
     run.journal.reserve()?;
-    let steps = run.core.run_on(limit);
+    let steps = run.core.run_on(FIRST_THREAD, limit);
     run.journal.note(FIRST_THREAD, steps);
     Ok(())
 }

@@ -3,7 +3,7 @@
 ghost use Rattle.std.specs.Prelude.{◌≡◌, ◌≤◌, ◌<◌, [], map, length, Ok, Err, IfOk, IfErr, MatchResult, OnOk};
 ghost use Rattle.std.specs.String.{string_bytes};
 ghost use Rattle.emu_top.specs.Sending.{AreUnread, sent};
-ghost use Rattle.emu_top.specs.Complete.{IsRunnable, NoneRose, NothingFailed};
+ghost use Rattle.emu_top.specs.Complete.{IsRunnable, NoneRose, NothingFailed, ReadsStill};
 ghost use Rattle.elf_file.specs.Reading.{image};
 ghost use Rattle.guest_core.specs.Start.{program_of, Starts};
 ghost use Rattle.emu_top.specs.Notes.{end_line, TellsEnd, TellsFault, EndsUntold};
@@ -56,7 +56,7 @@ struct Stopped<D: Device> {
 ///
 /// It costs by the listing, by the size of the program's segments, by the 2,048 pages of its stack, and by the number of
 /// its steps, at most the budget.
-#[tactic(auto, using(crate::proofs::TopFacts::faults, crate::proofs::CompleteFacts::complete, crate::proofs::CompleteFacts::complete_told))]
+#[tactic(auto, using(crate::proofs::TopFacts::faults, crate::proofs::CompleteFacts::complete, crate::proofs::CompleteFacts::complete_told, crate::proofs::CompleteFacts::still_told, crate::proofs::CompleteFacts::still_as))]
 pub fn solo_top<F: Folder, K: Sink, D: Device>(
     alloc: Global,
     words: &[String],
@@ -74,7 +74,8 @@ pub fn solo_top<F: Folder, K: Sink, D: Device>(
     ensures caused { IfErr result (λ f. Faults D.held D.failed_writes K.held K.failed_writes (F.tree folder.old) (F.failed_reads folder.old) (F.failed_reads folder.new) (map string_bytes words.now) devices.items notes.old notes.new f.cause f.journal f.devices.items) }
     // Where the words name a file of the folder that starts, and no count rose, only want of memory is left.
     ensures complete { IfErr result (λ f. IsRunnable (F.tree folder.old) (map string_bytes words.now) → NoneRose D.failed_writes K.failed_writes (F.failed_reads folder.old) (F.failed_reads folder.new) devices.items f.devices.items notes.old notes.new → f.cause ≡ memory) }
-    // No failure is passed over, and nothing is read of the devices.
+    // No failure is passed over, at an end or before a fault, and nothing is read of the devices.
+    ensures quiet_reads { IfErr result (λ f. ReadsStill f.cause (F.failed_reads folder.old) (F.failed_reads folder.new)) }
     ensures quiet { IfOk result (λ f. NothingFailed D.failed_writes K.failed_writes (F.failed_reads folder.old) (F.failed_reads folder.new) devices.items f.devices.items notes.old notes.new) }
     ensures unread { MatchResult result
         (λ f. AreUnread D.left D.failed_reads devices.items f.devices.items)
@@ -163,7 +164,7 @@ fn forgotten<D: Device>(fault: TopFault<D>) -> TopFault<D>
 }
 
 /// Runs the program that the words name, without a line on the notes.
-#[tactic(auto, using(crate::proofs::TopFacts::finishes, crate::proofs::TopFacts::is_caused))]
+#[tactic(auto, using(crate::proofs::TopFacts::finishes, crate::proofs::TopFacts::is_caused, crate::proofs::CompleteFacts::still_as))]
 fn attempt<F: Folder, D: Device>(
     alloc: Global,
     words: &[String],
@@ -177,6 +178,7 @@ fn attempt<F: Folder, D: Device>(
         (λ f. AreUnread D.left D.failed_reads devices.items f.devices.items)
         (λ f. AreUnread D.left D.failed_reads devices.items f.devices.items) }
     ensures still { IfOk result (λ f. (F.failed_reads folder.new ≡ F.failed_reads folder.old) × (map D.failed_writes f.devices.items ≡ map D.failed_writes devices.items)) }
+    ensures quiet { IfErr result (λ f. ReadsStill f.cause (F.failed_reads folder.old) (F.failed_reads folder.new)) }
     ensures folder { F.tree folder.new ≡ F.tree folder.old }
 {
     let launch = match prepare(alloc, words, folder) {

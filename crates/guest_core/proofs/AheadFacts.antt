@@ -11,69 +11,72 @@ use Rattle.guest_core.specs.declared.places.Place.{Place}
 use Rattle.guest_core.specs.declared.places.Place.TheVariants.{Loop, Start, Window, Done}
 use Rattle.guest_core.specs.declared.queue.Instance.{Instance}
 use Rattle.guest_core.specs.Instruction as step
-use Rattle.guest_core.specs.Machine.{Machine, due, is_live, later}
+use Rattle.guest_core.specs.Machine.{Context, Machine, alone, later}
 use Rattle.guest_core.specs.Pending.{first_new, first_of, is_empty}
-use Rattle.guest_core.specs.Rows.{Row, Execute, ClearFlag, note_or, take_or, row_at, row_of, flagged_row, done, executed, after, instruction_of, stepped, ticked}
-use Rattle.guest_core.specs.Event.{event_after, happens, is_enabled, run}
-use Rattle.guest_core.specs.Kept.{Keeps}
+use Rattle.guest_core.specs.Rows.{Row, Execute, ClearFlag, due_now, note_or, take_or, row_at, row_of, flagged_row, done, executed, after, instruction_of, stepped, ticked}
+use Rattle.guest_core.specs.Event.{event_after, happens, run}
+use Rattle.guest_core.specs.Kept.{Keeps, KeepsThread}
 use Rattle.guest_core.specs.Ahead.{AllGoOn, GoesOn, IsReady}
+use Rattle.guest_core.proofs.AloneFacts.{alone_keeps, event_alone, moved_is, only}
 use Rattle.guest_core.proofs.Due.{row_of_ticked}
 use Rattle.guest_core.proofs.KeptFacts.{step_keeps}
 
--- the state after such a step
-abbrev pub plainly : Machine → Regs → List Range → List Held → Machine
-plainly machine regs memory held = record machine { regs = regs; shared = record (later machine.shared) { memory = memory; held = held } }
+-- what such a step leaves
+abbrev pub plainly : Context → Regs → List Range → List Held → Context
+plainly context regs memory held = record context {
+  thread = record context.thread { regs = regs };
+  shared = record (later context.shared) { memory = memory; held = held };
+}
 
-done_by : (thread : ℕ) (row : Row) (machine : Machine) → row ≡ Execute → done thread row machine ≡ executed thread machine
-done_by thread row machine is = rw is refl
+done_by : (row : Row) (context : Context) → row ≡ Execute → done row context ≡ executed context
+done_by row context is = rw is refl
 
-enabled : (thread : ℕ) (machine : Machine) → is_live thread ≡ true → machine.end ≡ None → event_after machine (Step thread) ≡ Some (stepped thread (ticked machine))
-unfolding event_after
-enabled thread machine live lives = rw (live, lives) refl
-
-pub plain_step : (thread : ℕ) (machine : Machine) (regs : Regs) (memory : List Range) (held : List Held) → is_live thread ≡ true → IsReady machine → instruction_of thread machine ≡ step.Outcome.Runs regs memory held → event_after machine (Step thread) ≡ Some (plainly machine regs memory held)
+plain_step : (context : Context) (regs : Regs) (memory : List Range) (held : List Held) → IsReady context → instruction_of context ≡ step.Outcome.Runs regs memory held → stepped (ticked context) ≡ plainly context regs memory held
 unfolding stepped executed ticked
-plain_step thread machine regs memory held live ready runs =
-    enabled thread machine live ready.lives
-    ∙ ap Some (done_by thread (row_of (ticked machine)) (ticked machine) (row_of_ticked machine ∙ ready.row))
-    ∙ ap (λ outcome. Some (after outcome (ticked machine))) runs
+plain_step context regs memory held ready runs =
+    done_by (row_of (ticked context)) (ticked context) (row_of_ticked context ∙ ready.row)
+    ∙ ap (λ outcome. after outcome (ticked context)) runs
 
-row_at_by : (place : Place) (machine : Machine) (regs : Regs) (memory : List Range) (held : List Held) → row_at place (plainly machine regs memory held) ≡ row_at place machine
+row_at_by : (place : Place) (context : Context) (regs : Regs) (memory : List Range) (held : List Held) → row_at place (plainly context regs memory held) ≡ row_at place context
 unfolding flagged_row
-row_at_by Loop machine regs memory held = refl
-row_at_by Start machine regs memory held = refl
-row_at_by Window machine regs memory held = refl
-row_at_by (Done answer) machine regs memory held = refl
+row_at_by Loop context regs memory held = refl
+row_at_by Start context regs memory held = refl
+row_at_by Window context regs memory held = refl
+row_at_by (Done answer) context regs memory held = refl
 
-pub ready_after : (machine : Machine) (regs : Regs) (memory : List Range) (held : List Held) → IsReady machine → IsReady (plainly machine regs memory held)
+ready_after : (context : Context) (regs : Regs) (memory : List Range) (held : List Held) → IsReady context → IsReady (plainly context regs memory held)
 unfolding row_of
-ready_after machine regs memory held ready = record {
+ready_after context regs memory held ready = record {
   lives = ready.lives;
-  row = ap (note_or (first_new (due machine.shared) machine.noted)) (row_at_by machine.place machine regs memory held) ∙ ready.row;
+  row = ap (note_or (first_new (due_now context) context.thread.noted)) (row_at_by context.thread.place context regs memory held) ∙ ready.row;
 }
 
 -- one such step
-pub record WasMade (thread : ℕ) (old new : Machine) : Type 0 where
-  pub event : event_after old (Step thread) ≡ Some new
+pub record WasMade (old new : Context) : Type 0 where
+  pub made : new ≡ stepped (ticked old)
   pub ready : IsReady new
   pub outputs : new.shared.outputs ≡ old.shared.outputs
 
-pub was_made : (thread : ℕ) (old new : Machine) (regs : Regs) (memory : List Range) (held : List Held) → is_live thread ≡ true → IsReady old → instruction_of thread old ≡ step.Outcome.Runs regs memory held → new ≡ ticked (record old { regs = regs; shared = record old.shared { memory = memory; held = held } }) → WasMade thread old new
+pub was_made : (old new : Context) (regs : Regs) (memory : List Range) (held : List Held) → IsReady old → instruction_of old ≡ step.Outcome.Runs regs memory held → new ≡ ticked (record old { thread = record old.thread { regs = regs }; shared = record old.shared { memory = memory; held = held } }) → WasMade old new
 unfolding ticked
-was_made thread old new regs memory held live ready runs is = subst (WasMade thread old) (sym is) (record {
-  event = plain_step thread old regs memory held live ready runs;
+was_made old new regs memory held ready runs is = subst (WasMade old) (sym is) (record {
+  made = sym (plain_step old regs memory held ready runs);
   ready = ready_after old regs memory held ready;
   outputs = refl;
 })
 
+-- it is an event of the machine with that thread
+pub plain_event : (id : ℕ) (old new : Context) → old.thread.id ≡ id → IsReady old → new ≡ stepped (ticked old) → event_after (alone old) (Step id) ≡ Some (alone new)
+plain_event id old new this ready made = rw (made, ← this) (event_alone old ready.lives)
+
 -- ---- when a step is an instruction's
 
-row_by : (new : Option Instance) (place : Place) (machine : Machine) → new ≡ None → place ≡ Loop → machine.flag ≡ false → note_or new (row_at place machine) ≡ Execute
-row_by new place machine none loop clear = rw (none, loop, clear) refl
+row_by : (new : Option Instance) (place : Place) (context : Context) → new ≡ None → place ≡ Loop → context.thread.flag ≡ false → note_or new (row_at place context) ≡ Execute
+row_by new place context none loop clear = rw (none, loop, clear) refl
 
-pub row_is : (machine : Machine) → first_new (due machine.shared) machine.noted ≡ None → machine.place ≡ Loop → machine.flag ≡ false → row_of machine ≡ Execute
+pub row_is : (context : Context) → first_new (due_now context) context.thread.noted ≡ None → context.thread.place ≡ Loop → context.thread.flag ≡ false → row_of context ≡ Execute
 unfolding row_of
-row_is machine none loop clear = row_by (first_new (due machine.shared) machine.noted) machine.place machine none loop clear
+row_is context none loop clear = row_by (first_new (due_now context) context.thread.noted) context.thread.place context none loop clear
 
 take_or_apart : (due : Option Instance) → take_or due ClearFlag ≡ Execute → ⊥
 take_or_apart (Some instance) is = cc
@@ -83,32 +86,32 @@ flagged_by : (empty : Bool) (due : Option Instance) → cond empty ClearFlag (ta
 flagged_by true due is = cc
 flagged_by false due is = take_or_apart due is
 
-flagged_apart : (machine : Machine) → flagged_row machine ≡ Execute → ⊥
+flagged_apart : (context : Context) → flagged_row context ≡ Execute → ⊥
 unfolding flagged_row
-flagged_apart machine is = flagged_by (is_empty machine.noted) (first_of (due machine.shared)) is
+flagged_apart context is = flagged_by (is_empty context.thread.noted) (first_of (due_now context)) is
 
-loop_by : (flag : Bool) (machine : Machine) → cond flag (flagged_row machine) Execute ≡ Execute → flag ≡ false
-loop_by true machine is = absurd (flagged_apart machine is)
-loop_by false machine is = refl
+loop_by : (flag : Bool) (context : Context) → cond flag (flagged_row context) Execute ≡ Execute → flag ≡ false
+loop_by true context is = absurd (flagged_apart context is)
+loop_by false context is = refl
 
--- what a ready machine's fields are
-fields_by : (new : Option Instance) (place : Place) (machine : Machine) → note_or new (row_at place machine) ≡ Execute → (new ≡ None) × (place ≡ Loop) × (machine.flag ≡ false)
-fields_by (Some instance) place machine is = cc
-fields_by None Loop machine is = (refl, refl, loop_by machine.flag machine is)
-fields_by None Start machine is = cc
-fields_by None Window machine is = cc
-fields_by None (Done answer) machine is = cc
+-- what the fields of one that is ready are
+fields_by : (new : Option Instance) (place : Place) (context : Context) → note_or new (row_at place context) ≡ Execute → (new ≡ None) × (place ≡ Loop) × (context.thread.flag ≡ false)
+fields_by (Some instance) place context is = cc
+fields_by None Loop context is = (refl, refl, loop_by context.thread.flag context is)
+fields_by None Start context is = cc
+fields_by None Window context is = cc
+fields_by None (Done answer) context is = cc
 
-pub is_row : (machine : Machine) → row_of machine ≡ Execute → (first_new (due machine.shared) machine.noted ≡ None) × (machine.place ≡ Loop) × (machine.flag ≡ false)
+pub is_row : (context : Context) → row_of context ≡ Execute → (first_new (due_now context) context.thread.noted ≡ None) × (context.thread.place ≡ Loop) × (context.thread.flag ≡ false)
 unfolding row_of
-is_row machine is = fields_by (first_new (due machine.shared) machine.noted) machine.place machine is
+is_row context is = fields_by (first_new (due_now context) context.thread.noted) context.thread.place context is
 
-pub ready_is : (machine : Machine) → machine.end ≡ None → first_new (due machine.shared) machine.noted ≡ None → machine.place ≡ Loop → machine.flag ≡ false → IsReady machine
-ready_is machine lives none loop clear = record { lives = lives; row = row_is machine none loop clear }
+pub ready_is : (context : Context) → context.end ≡ None → first_new (due_now context) context.thread.noted ≡ None → context.thread.place ≡ Loop → context.thread.flag ≡ false → IsReady context
+ready_is context lives none loop clear = record { lives = lives; row = row_is context none loop clear }
 
-pub is_ready : (machine : Machine) → IsReady machine → (machine.end ≡ None) × (first_new (due machine.shared) machine.noted ≡ None) × (machine.place ≡ Loop) × (machine.flag ≡ false)
-is_ready machine ready =
-    let fields = is_row machine ready.row in
+pub is_ready : (context : Context) → IsReady context → (context.end ≡ None) × (first_new (due_now context) context.thread.noted ≡ None) × (context.thread.place ≡ Loop) × (context.thread.flag ≡ false)
+is_ready context ready =
+    let fields = is_row context ready.row in
     (ready.lives, fields.0, fields.1, fields.2)
 
 -- ---- lists of such steps
@@ -121,20 +124,21 @@ pub run_more : (state : Option Machine) (event : Event) (count : ℕ) → run st
 run_more state event count = ap (λ (n : ℕ). run state (replicate n event)) (sym (suc-eq-add-one count)) ∙ run_suc state event count
 
 -- a run keeps what every state keeps
-event_keeps : (thread : ℕ) (alive : Bool) (machine next : Machine) → Keeps machine → cond alive (Some (stepped thread (ticked machine))) None ≡ Some next → Keeps next
-event_keeps thread true machine next keeps is = let same : stepped thread (ticked machine) ≡ next = cc in subst Keeps same (step_keeps thread machine keeps)
-event_keeps thread false machine next keeps is = cc
+keeps_by : (id : ℕ) (context : Context) (next : Machine) → KeepsThread context → event_after (alone context) (Step id) ≡ Some next → Keeps next
+keeps_by id context next keeps is =
+    subst Keeps (moved_is context id next is).next_is (alone_keeps (stepped (ticked context)) (step_keeps context keeps))
 
-happens_keeps : (event : Event) (machine next : Machine) → Keeps machine → event_after machine event ≡ Some next → Keeps next
-unfolding event_after
-happens_keeps (Step thread) machine next keeps is = event_keeps thread (is_enabled machine (Step thread)) machine next keeps is
+pub event_keeps : (event : Event) (machine next : Machine) → Keeps machine → event_after machine event ≡ Some next → Keeps next
+event_keeps (Step id) machine next keeps is =
+    let one = only machine keeps in
+    keeps_by id one.context next one.keeps (ap (λ (m : Machine). event_after m (Step id)) one.is ∙ is)
 
 none_stays : (events : List Event) → run None events ≡ None
 none_stays [] = refl
 none_stays (event ∷ events) = none_stays events
 
 run_keeps_from : (after : Option Machine) (machine next : Machine) (event : Event) (events : List Event) → ((now : Machine) → Keeps now → run (Some now) events ≡ Some next → Keeps next) → Keeps machine → event_after machine event ≡ after → run after events ≡ Some next → Keeps next
-run_keeps_from (Some now) machine next event events rest keeps is ran = rest now (happens_keeps event machine now keeps is) ran
+run_keeps_from (Some now) machine next event events rest keeps is ran = rest now (event_keeps event machine now keeps is) ran
 run_keeps_from None machine next event events rest keeps is ran = let none : None ≡ Some next = sym (none_stays events) ∙ ran in cc
 
 pub run_keeps : (events : List Event) (machine next : Machine) → Keeps machine → run (Some machine) events ≡ Some next → Keeps next

@@ -1,5 +1,5 @@
 -- That outputs only grow, at most one of them in an event.
-use Rattle.std.proofs.Common.{◌≡◌, ℕ, Bool, true, false, cond, ◌==◌, nat_lt, min, length, List, [], Option, Some, None, refl, sym, ap, ◌∙◌, set, get_or, append-nil}
+use Rattle.std.proofs.Common.{◌≡◌, ℕ, Bool, true, false, cond, nat_lt, min, length, List, [], Option, Some, None, refl, sym, ap, ◌∙◌, set, get_or, append-nil}
 use Rattle.std.proofs.lemmas.List.{set-get_or}
 use Rattle.guest_core.specs.declared.events.Event.{Event}
 use Rattle.guest_core.specs.declared.events.Event.TheVariants.{Step}
@@ -9,12 +9,16 @@ use Rattle.isa_exec.specs.declared.registers.Regs.{Regs}
 use Rattle.isa_exec.specs.Registers.{register}
 use Rattle.guest_pages.specs.declared.fault.PageFault.{PageFault}
 use Rattle.guest_pages.specs.Faults.{first_fault, readable}
+use Rattle.guest_core.specs.declared.call_table.CallNo.{CallNo}
+use Rattle.guest_core.specs.declared.call_table.CallNo.TheVariants.{Write, ExitGroup}
 use Rattle.guest_core.specs.Call as call
 use Rattle.guest_core.specs.Instruction as step
-use Rattle.guest_core.specs.Machine.{Shared, Machine}
+use Rattle.guest_core.specs.Machine.{Shared, Context, alone, later}
 use Rattle.guest_core.specs.Rows.{Row, Note, Take, ClearFlag, Execute, Check, Enter, Return, row_of, done, noted, taken, flag_cleared, after, executed, checked, after_call, entered, instruction_of, returned, stepped, ticked}
-use Rattle.guest_core.specs.Growth.{lengthens_at, lengthens, Lengthened}
-use Rattle.guest_core.specs.Kept.{Keeps}
+use Rattle.guest_core.specs.Event.{is_enabled}
+use Rattle.guest_core.specs.Growth.{lengthens_as, lengthens_at, lengthens, Lengthened}
+use Rattle.guest_core.specs.Kept.{KeepsThread}
+use Rattle.guest_core.proofs.AloneFacts.{enabled_is, here}
 use Rattle.guest_core.proofs.KeptFacts.{Fits, row_fits, tick_keeps}
 
 nothing_more : (device : ℕ) (outputs : List (List ℕ)) → outputs ≡ call.with_output device [] outputs
@@ -45,70 +49,78 @@ write_lengthened descriptor at wish shared =
     (call.written (first_fault readable shared.memory at count) descriptor at count shared) (call.refused call.bad_descriptor shared)
     (written_lengthened (first_fault readable shared.memory at count) descriptor at count shared) refl
 
+as_lengthened : (asked : Option CallNo) (regs : Regs) (shared : Shared) → Lengthened (call.output_as asked regs shared) shared.outputs (call.made_as asked regs shared).shared.outputs
+as_lengthened None regs shared = refl
+as_lengthened (Some Write) regs shared = write_lengthened (register regs 10) (register regs 11) (register regs 12) shared
+as_lengthened (Some ExitGroup) regs shared = refl
+
 called_lengthened : (thread : ℕ) (regs : Regs) (shared : Shared) → Lengthened (call.output_of_call regs shared) shared.outputs (call.called thread regs shared).shared.outputs
 unfolding call.output_of_call call.called call.made
-called_lengthened thread regs shared =
-    let first = call.write (register regs 10) (register regs 11) (register regs 12) shared in
-    let second = call.exit_group (register regs 10) shared in
-    let third = call.refused call.no_such_call shared in
-    either_lengthened (register regs 17 == 64) (cond (nat_lt (register regs 10) (length shared.outputs)) (Some (register regs 10)) None) None shared.outputs
-    first (cond (register regs 17 == 94) second third)
-    (write_lengthened (register regs 10) (register regs 11) (register regs 12) shared)
-    (either_same (register regs 17 == 94) shared.outputs second third refl refl)
+called_lengthened thread regs shared = as_lengthened (call.asked regs) regs shared
 
 -- the step from the window
-entered_by : (outcome : call.Outcome) (shared : Shared) (machine : Machine) (device : Option ℕ) (old : List (List ℕ)) → Lengthened device old shared.outputs → Lengthened device old (after_call (record { shared = shared; outcome = outcome }) machine).shared.outputs
-entered_by (call.Outcome.Answers answer) shared machine device old grown = grown
-entered_by (call.Outcome.Ends end) shared machine device old grown = grown
+entered_by : (outcome : call.Outcome) (shared : Shared) (context : Context) (device : Option ℕ) (old : List (List ℕ)) → Lengthened device old shared.outputs → Lengthened device old (after_call (record { shared = shared; outcome = outcome }) context).shared.outputs
+entered_by (call.Outcome.Answers answer) shared context device old grown = grown
+entered_by (call.Outcome.Ends end) shared context device old grown = grown
 
-at_window : (place : Place) (machine : Machine) (new : List (List ℕ)) → place ≡ Window → Lengthened (call.output_of_call machine.regs machine.shared) machine.shared.outputs new → Lengthened (lengthens_at place machine) machine.shared.outputs new
-at_window Loop machine new window grown = cc
-at_window Start machine new window grown = cc
-at_window Window machine new window grown = grown
-at_window (Done answer) machine new window grown = cc
+at_window : (place : Place) (context : Context) (new : List (List ℕ)) → place ≡ Window → Lengthened (call.output_of_call context.thread.regs context.shared) context.shared.outputs new → Lengthened (lengthens_at place context) context.shared.outputs new
+at_window Loop context new window grown = cc
+at_window Start context new window grown = cc
+at_window Window context new window grown = grown
+at_window (Done answer) context new window grown = cc
 
-enter_lengthened : (thread : ℕ) (machine : Machine) → machine.place ≡ Window → Lengthened (lengthens_at machine.place machine) machine.shared.outputs (entered thread machine).shared.outputs
+enter_lengthened : (context : Context) → context.thread.place ≡ Window → Lengthened (lengthens_at context.thread.place context) context.shared.outputs (entered context).shared.outputs
 unfolding entered
-enter_lengthened thread machine window =
-    let called = call.called thread machine.regs machine.shared in
-    at_window machine.place machine (entered thread machine).shared.outputs window
-    (entered_by called.outcome called.shared machine (call.output_of_call machine.regs machine.shared) machine.shared.outputs (called_lengthened thread machine.regs machine.shared))
+enter_lengthened context window =
+    let called = call.called context.thread.id context.thread.regs context.shared in
+    at_window context.thread.place context (entered context).shared.outputs window
+    (entered_by called.outcome called.shared context (call.output_of_call context.thread.regs context.shared) context.shared.outputs (called_lengthened context.thread.id context.thread.regs context.shared))
 
-after_same : (outcome : step.Outcome) (machine : Machine) → (after outcome machine).shared.outputs ≡ machine.shared.outputs
-after_same (step.Outcome.Runs regs memory held) machine = refl
-after_same step.Outcome.Calls machine = refl
-after_same (step.Outcome.Faults fault) machine = refl
+after_same : (outcome : step.Outcome) (context : Context) → (after outcome context).shared.outputs ≡ context.shared.outputs
+after_same (step.Outcome.Runs regs memory held) context = refl
+after_same step.Outcome.Calls context = refl
+after_same (step.Outcome.Faults fault) context = refl
 
-row_lengthened : (thread : ℕ) (row : Row) (machine : Machine) → Fits row machine → Lengthened (lengthens_at machine.place machine) machine.shared.outputs (done thread row machine).shared.outputs
+row_lengthened : (row : Row) (context : Context) → Fits row context → Lengthened (lengthens_at context.thread.place context) context.shared.outputs (done row context).shared.outputs
 unfolding noted taken flag_cleared executed checked returned
-row_lengthened thread (Note instance) machine fits = same_lengthened _ _ _ refl
-row_lengthened thread (Take instance) machine fits = same_lengthened _ _ _ refl
-row_lengthened thread ClearFlag machine fits = same_lengthened _ _ _ refl
-row_lengthened thread Execute machine fits = same_lengthened _ _ _ (after_same (instruction_of thread machine) machine)
-row_lengthened thread Check machine fits = same_lengthened _ _ _ refl
-row_lengthened thread Enter machine fits = enter_lengthened thread machine fits.0
-row_lengthened thread (Return answer) machine fits = same_lengthened _ _ _ refl
+row_lengthened (Note instance) context fits = same_lengthened _ _ _ refl
+row_lengthened (Take instance) context fits = same_lengthened _ _ _ refl
+row_lengthened ClearFlag context fits = same_lengthened _ _ _ refl
+row_lengthened Execute context fits = same_lengthened _ _ _ (after_same (instruction_of context) context)
+row_lengthened Check context fits = same_lengthened _ _ _ refl
+row_lengthened Enter context fits = enter_lengthened context fits.0
+row_lengthened (Return answer) context fits = same_lengthened _ _ _ refl
 
 -- time changes nothing that a call sees of outputs
-time_by : (place : Place) (machine : Machine) (new : List (List ℕ)) → Lengthened (lengthens_at place (ticked machine)) (ticked machine).shared.outputs new → Lengthened (lengthens_at place machine) machine.shared.outputs new
+output_later : (asked : Option CallNo) (regs : Regs) (shared : Shared) → call.output_as asked regs (later shared) ≡ call.output_as asked regs shared
+output_later None regs shared = refl
+output_later (Some Write) regs shared = refl
+output_later (Some ExitGroup) regs shared = refl
+
+time_by : (place : Place) (context : Context) (new : List (List ℕ)) → Lengthened (lengthens_at place (ticked context)) (ticked context).shared.outputs new → Lengthened (lengthens_at place context) context.shared.outputs new
 unfolding ticked call.output_of_call
-time_by Loop machine new grown = grown
-time_by Start machine new grown = grown
-time_by Window machine new grown = grown
-time_by (Done answer) machine new grown = grown
+time_by Loop context new grown = grown
+time_by Start context new grown = grown
+time_by Window context new grown = rw (← output_later (call.asked context.thread.regs) context.thread.regs context.shared) grown
+time_by (Done answer) context new grown = grown
 
-row_of_time : (machine : Machine) (new : List (List ℕ)) → Lengthened (lengthens_at (ticked machine).place (ticked machine)) (ticked machine).shared.outputs new → Lengthened (lengthens_at machine.place machine) machine.shared.outputs new
+time_at : (context : Context) (new : List (List ℕ)) → Lengthened (lengthens_at (ticked context).thread.place (ticked context)) (ticked context).shared.outputs new → Lengthened (lengthens_at context.thread.place context) context.shared.outputs new
 unfolding ticked
-row_of_time machine new grown = time_by machine.place machine new grown
+time_at context new grown = time_by context.thread.place context new grown
 
--- an event lengthens at most that device's output, whatever thread makes it
-pub step_lengthens : (machine : Machine) (thread other : ℕ) → Keeps machine → Lengthened (lengthens machine (Step other)) machine.shared.outputs (stepped thread (ticked machine)).shared.outputs
-unfolding stepped lengthens
-step_lengthens machine thread other keeps =
-    let next = tick_keeps machine keeps in
-    row_of_time machine (done thread (row_of (ticked machine)) (ticked machine)).shared.outputs
-    (row_lengthened thread (row_of (ticked machine)) (ticked machine) (row_fits (ticked machine) next))
+-- a step lengthens at most the output of its device
+step_lengthens : (context : Context) → KeepsThread context → Lengthened (lengthens_at context.thread.place context) context.shared.outputs (stepped (ticked context)).shared.outputs
+unfolding stepped
+step_lengthens context keeps =
+    let next = tick_keeps context keeps in
+    time_at context (done (row_of (ticked context)) (ticked context)).shared.outputs
+    (row_lengthened (row_of (ticked context)) (ticked context) (row_fits (ticked context) next))
 
--- the same of the state that a step gave
-pub new_lengthens : (event : Event) (thread : ℕ) (old new : Machine) → Keeps old → new ≡ stepped thread (ticked old) → Lengthened (lengthens old event) old.shared.outputs new.shared.outputs
-new_lengthens (Step other) thread old new keeps same = rw same (step_lengthens old thread other keeps)
+lengthens_here : (context : Context) → lengthens (alone context) (Step context.thread.id) ≡ lengthens_at context.thread.place context
+unfolding lengthens
+lengthens_here context = ap (λ found. lengthens_as found (alone context)) (here context)
+
+-- the same of the event, and of the state that it gave
+pub new_lengthens : (event : Event) (context next : Context) → KeepsThread context → is_enabled (alone context) event ≡ true → next ≡ stepped (ticked context) → Lengthened (lengthens (alone context) event) context.shared.outputs next.shared.outputs
+new_lengthens (Step id) context next keeps enabled same =
+    rw (same, ← (enabled_is context id enabled).1, lengthens_here context) (step_lengthens context keeps)

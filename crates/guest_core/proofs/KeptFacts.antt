@@ -15,10 +15,12 @@ use Rattle.word_memory.specs.declared.fault.WordFault.{WordFault}
 use Rattle.word_memory.specs.declared.reservations.Held.{Held}
 use Rattle.guest_core.specs.Pending.{first_new, first_of, is_empty}
 use Rattle.guest_core.specs.Instruction as step
+use Rattle.guest_core.specs.declared.call_table.CallNo.{CallNo}
+use Rattle.guest_core.specs.declared.call_table.CallNo.TheVariants.{Write, ExitGroup}
 use Rattle.guest_core.specs.Call as call
-use Rattle.guest_core.specs.Machine.{Shared, Machine, due}
-use Rattle.guest_core.specs.Rows.{Row, Note, Take, ClearFlag, Execute, Check, Enter, Return, note_or, take_or, row_at, flagged_row, row_of, done, noted_at, noted, taken, flag_cleared, after, executed, checked, after_call, entered, instruction_of, returned, stepped, ticked}
-use Rattle.guest_core.specs.Kept.{Keeps, has_id, all_have}
+use Rattle.guest_core.specs.Machine.{Shared, Context}
+use Rattle.guest_core.specs.Rows.{Row, due_now, Note, Take, ClearFlag, Execute, Check, Enter, Return, note_or, take_or, row_at, flagged_row, row_of, done, noted_at, noted, taken, flag_cleared, after, executed, checked, after_call, entered, instruction_of, returned, stepped, ticked}
+use Rattle.guest_core.specs.Kept.{KeepsThread, has_id, all_have}
 use Rattle.guest_core.proofs.Due.{nothing_due}
 use Rattle.guest_core.proofs.EffectFacts.{calls_is_ecall}
 use Rattle.guest_core.proofs.Noted.{found_has_id, all_have_more, all_have_left}
@@ -38,45 +40,45 @@ zero_kept number value regs = set_zero_by (number == 0) number value regs refl
 -- ---- what the rows ask
 
 -- what is known of a state that the row fits
-abbrev pub Fits : Row → Machine → Type 0
-Fits (Note instance) machine = has_id (due machine.shared) instance.id ≡ true
-Fits (Take instance) machine = (machine.place ≡ Loop) × (first_of (due machine.shared) ≡ Some instance)
-Fits ClearFlag machine = machine.noted ≡ []
-Fits Execute machine = (machine.place ≡ Loop) × (machine.flag ≡ false) × (due machine.shared ≡ [])
-Fits Check machine = machine.place ≡ Start
-Fits Enter machine = (machine.place ≡ Window) × (due machine.shared ≡ [])
-Fits (Return answer) machine = machine.place ≡ Done answer
+abbrev pub Fits : Row → Context → Type 0
+Fits (Note instance) context = has_id (due_now context) instance.id ≡ true
+Fits (Take instance) context = (context.thread.place ≡ Loop) × (first_of (due_now context) ≡ Some instance)
+Fits ClearFlag context = context.thread.noted ≡ []
+Fits Execute context = (context.thread.place ≡ Loop) × (context.thread.flag ≡ false) × (due_now context ≡ [])
+Fits Check context = context.thread.place ≡ Start
+Fits Enter context = (context.thread.place ≡ Window) × (due_now context ≡ [])
+Fits (Return answer) context = context.thread.place ≡ Done answer
 
-flagged_by : (noted : List ℕ) (due : List Instance) (machine : Machine) → machine.place ≡ Loop → machine.noted ≡ noted → machine.shared.pending ≡ due → all_have noted due ≡ true → Fits (cond (is_empty noted) ClearFlag (take_or (first_of due) ClearFlag)) machine
-flagged_by [] due machine place same is all = same
-flagged_by (id ∷ noted) [] machine place same is all = cc
-flagged_by (id ∷ noted) (instance ∷ due) machine place same is all = (place, ap first_of is)
+flagged_by : (noted : List ℕ) (due : List Instance) (context : Context) → context.thread.place ≡ Loop → context.thread.noted ≡ noted → due_now context ≡ due → all_have noted due ≡ true → Fits (cond (is_empty noted) ClearFlag (take_or (first_of due) ClearFlag)) context
+flagged_by [] due context place same is all = same
+flagged_by (id ∷ noted) [] context place same is all = cc
+flagged_by (id ∷ noted) (instance ∷ due) context place same is all = (place, ap first_of is)
 
-flagged_fits : (machine : Machine) → machine.place ≡ Loop → Keeps machine → Fits (flagged_row machine) machine
+flagged_fits : (context : Context) → context.thread.place ≡ Loop → KeepsThread context → Fits (flagged_row context) context
 unfolding flagged_row
-flagged_fits machine place keeps = flagged_by machine.noted (due machine.shared) machine place refl refl keeps.noted_due
+flagged_fits context place keeps = flagged_by context.thread.noted (due_now context) context place refl refl keeps.noted_due
 
 -- with a clear flag nothing is noted, and so nothing is due
-clear_due : (machine : Machine) → Keeps machine → first_new (due machine.shared) machine.noted ≡ None → machine.flag ≡ false → due machine.shared ≡ []
-clear_due machine keeps none clear = nothing_due (due machine.shared) machine.noted none (keeps.flag_set clear)
+clear_due : (context : Context) → KeepsThread context → first_new (due_now context) context.thread.noted ≡ None → context.thread.flag ≡ false → due_now context ≡ []
+clear_due context keeps none clear = nothing_due (due_now context) context.thread.noted none (keeps.flag_set clear)
 
-loop_by : (flag : Bool) (machine : Machine) → machine.flag ≡ flag → machine.place ≡ Loop → Keeps machine → first_new (due machine.shared) machine.noted ≡ None → Fits (cond flag (flagged_row machine) Execute) machine
-loop_by true machine flag place keeps none = flagged_fits machine place keeps
-loop_by false machine flag place keeps none = (place, flag, clear_due machine keeps none flag)
+loop_by : (flag : Bool) (context : Context) → context.thread.flag ≡ flag → context.thread.place ≡ Loop → KeepsThread context → first_new (due_now context) context.thread.noted ≡ None → Fits (cond flag (flagged_row context) Execute) context
+loop_by true context flag place keeps none = flagged_fits context place keeps
+loop_by false context flag place keeps none = (place, flag, clear_due context keeps none flag)
 
-row_at_fits : (place : Place) (machine : Machine) → machine.place ≡ place → Keeps machine → first_new (due machine.shared) machine.noted ≡ None → Fits (row_at place machine) machine
-row_at_fits Loop machine place keeps none = loop_by machine.flag machine refl place keeps none
-row_at_fits Start machine place keeps none = place
-row_at_fits Window machine place keeps none = (place, clear_due machine keeps none (keeps.window_clear place))
-row_at_fits (Done answer) machine place keeps none = place
+row_at_fits : (place : Place) (context : Context) → context.thread.place ≡ place → KeepsThread context → first_new (due_now context) context.thread.noted ≡ None → Fits (row_at place context) context
+row_at_fits Loop context place keeps none = loop_by context.thread.flag context refl place keeps none
+row_at_fits Start context place keeps none = place
+row_at_fits Window context place keeps none = (place, clear_due context keeps none (keeps.window_clear place))
+row_at_fits (Done answer) context place keeps none = place
 
-note_or_fits : (new : Option Instance) (machine : Machine) → first_new (due machine.shared) machine.noted ≡ new → Keeps machine → Fits (note_or new (row_at machine.place machine)) machine
-note_or_fits None machine none keeps = row_at_fits machine.place machine refl keeps none
-note_or_fits (Some instance) machine some keeps = found_has_id _ (due machine.shared) instance some
+note_or_fits : (new : Option Instance) (context : Context) → first_new (due_now context) context.thread.noted ≡ new → KeepsThread context → Fits (note_or new (row_at context.thread.place context)) context
+note_or_fits None context none keeps = row_at_fits context.thread.place context refl keeps none
+note_or_fits (Some instance) context some keeps = found_has_id _ (due_now context) instance some
 
-pub row_fits : (machine : Machine) → Keeps machine → Fits (row_of machine) machine
+pub row_fits : (context : Context) → KeepsThread context → Fits (row_of context) context
 unfolding row_of
-row_fits machine keeps = note_or_fits (first_new (due machine.shared) machine.noted) machine refl keeps
+row_fits context keeps = note_or_fits (first_new (due_now context) context.thread.noted) context refl keeps
 
 -- ---- each row keeps
 
@@ -92,29 +94,29 @@ was_not_loop Start apart same = cc
 was_not_loop Window apart same = cc
 was_not_loop (Done answer) apart same = cc
 
-note_keeps : (instance : Instance) (machine : Machine) → Keeps machine → has_id (due machine.shared) instance.id ≡ true → Keeps (noted instance machine)
+note_keeps : (instance : Instance) (context : Context) → KeepsThread context → has_id (due_now context) instance.id ≡ true → KeepsThread (noted instance context)
 unfolding noted
-note_keeps instance machine keeps has = record {
-  noted_due = all_have_more machine.noted instance.id (due machine.shared) keeps.noted_due has;
+note_keeps instance context keeps has = record {
+  noted_due = all_have_more context.thread.noted instance.id (due_now context) keeps.noted_due has;
   flag_set = λ clear. cc;
-  window_clear = λ window. absurd (not_window machine.place window);
-  at_call = λ apart. keeps.at_call (was_not_loop machine.place apart);
+  window_clear = λ window. absurd (not_window context.thread.place window);
+  at_call = λ apart. keeps.at_call (was_not_loop context.thread.place apart);
   zero = keeps.zero;
 }
 
-take_keeps : (instance : Instance) (machine : Machine) → Keeps machine → Keeps (taken instance machine)
+take_keeps : (instance : Instance) (context : Context) → KeepsThread context → KeepsThread (taken instance context)
 unfolding taken
-take_keeps instance machine keeps = record {
-  noted_due = all_have_left machine.noted instance.id (due machine.shared) keeps.noted_due;
+take_keeps instance context keeps = record {
+  noted_due = all_have_left context.thread.noted instance.id (due_now context) keeps.noted_due;
   flag_set = λ clear. rw (keeps.flag_set clear) refl;
   window_clear = keeps.window_clear;
   at_call = keeps.at_call;
   zero = keeps.zero;
 }
 
-clear_keeps : (machine : Machine) → Keeps machine → machine.noted ≡ [] → Keeps (flag_cleared machine)
+clear_keeps : (context : Context) → KeepsThread context → context.thread.noted ≡ [] → KeepsThread (flag_cleared context)
 unfolding flag_cleared
-clear_keeps machine keeps none = record {
+clear_keeps context keeps none = record {
   noted_due = keeps.noted_due;
   flag_set = λ clear. none;
   window_clear = λ window. refl;
@@ -122,15 +124,15 @@ clear_keeps machine keeps none = record {
   zero = keeps.zero;
 }
 
-check_by : (flag : Bool) (machine : Machine) → machine.flag ≡ flag → Keeps machine → machine.place ≡ Start → Keeps (record machine { place = cond flag Loop Window })
-check_by true machine flag keeps start = record {
+check_by : (flag : Bool) (context : Context) → context.thread.flag ≡ flag → KeepsThread context → context.thread.place ≡ Start → KeepsThread (record context { thread = record context.thread { place = cond flag Loop Window } })
+check_by true context flag keeps start = record {
   noted_due = keeps.noted_due;
   flag_set = keeps.flag_set;
   window_clear = λ window. cc;
   at_call = λ apart. absurd (apart refl);
   zero = keeps.zero;
 }
-check_by false machine flag keeps start = record {
+check_by false context flag keeps start = record {
   noted_due = keeps.noted_due;
   flag_set = keeps.flag_set;
   window_clear = λ window. flag;
@@ -138,18 +140,18 @@ check_by false machine flag keeps start = record {
   zero = keeps.zero;
 }
 
-check_keeps : (machine : Machine) → Keeps machine → machine.place ≡ Start → Keeps (checked machine)
+check_keeps : (context : Context) → KeepsThread context → context.thread.place ≡ Start → KeepsThread (checked context)
 unfolding checked
-check_keeps machine keeps start = check_by machine.flag machine refl keeps start
+check_keeps context keeps start = check_by context.thread.flag context refl keeps start
 
-return_keeps : (answer : ℤ) (machine : Machine) → Keeps machine → Keeps (returned answer machine)
+return_keeps : (answer : ℤ) (context : Context) → KeepsThread context → KeepsThread (returned answer context)
 unfolding returned call.answered going_on_at
-return_keeps answer machine keeps = record {
+return_keeps answer context keeps = record {
   noted_due = keeps.noted_due;
   flag_set = keeps.flag_set;
   window_clear = λ window. cc;
   at_call = λ apart. absurd (apart refl);
-  zero = zero_kept 10 _ machine.regs ∙ keeps.zero;
+  zero = zero_kept 10 _ context.thread.regs ∙ keeps.zero;
 }
 
 -- ---- instructions
@@ -241,22 +243,22 @@ instruction_calls : (thread another : ℕ) (regs : Regs) (memory : List Range) (
 unfolding step.instruction
 instruction_calls thread another regs memory held other same = found_calls thread another (step.found regs memory) regs memory held other same
 
-after_keeps : (thread : ℕ) (outcome : step.Outcome) (machine : Machine) → instruction_of thread machine ≡ outcome → Keeps machine → machine.place ≡ Loop → machine.flag ≡ false → Keeps (after outcome machine)
-after_keeps thread (step.Outcome.Runs regs memory held) machine same keeps loop clear = record {
+after_keeps : (outcome : step.Outcome) (context : Context) → instruction_of context ≡ outcome → KeepsThread context → context.thread.place ≡ Loop → context.thread.flag ≡ false → KeepsThread (after outcome context)
+after_keeps (step.Outcome.Runs regs memory held) context same keeps loop clear = record {
   noted_due = keeps.noted_due;
   flag_set = keeps.flag_set;
   window_clear = keeps.window_clear;
   at_call = λ apart. absurd (apart loop);
-  zero = instruction_zero thread machine.regs regs machine.shared.memory memory machine.shared.held held same ∙ keeps.zero;
+  zero = instruction_zero context.thread.id context.thread.regs regs context.shared.memory memory context.shared.held held same ∙ keeps.zero;
 }
-after_keeps thread step.Outcome.Calls machine same keeps loop clear = record {
+after_keeps step.Outcome.Calls context same keeps loop clear = record {
   noted_due = keeps.noted_due;
   flag_set = keeps.flag_set;
   window_clear = λ window. cc;
-  at_call = λ apart another. instruction_calls thread another machine.regs machine.shared.memory machine.shared.held machine.shared.held same;
+  at_call = λ apart another. instruction_calls context.thread.id another context.thread.regs context.shared.memory context.shared.held context.shared.held same;
   zero = keeps.zero;
 }
-after_keeps thread (step.Outcome.Faults fault) machine same keeps loop clear = record {
+after_keeps (step.Outcome.Faults fault) context same keeps loop clear = record {
   noted_due = rw (keeps.flag_set clear) refl;
   flag_set = keeps.flag_set;
   window_clear = keeps.window_clear;
@@ -264,10 +266,10 @@ after_keeps thread (step.Outcome.Faults fault) machine same keeps loop clear = r
   zero = keeps.zero;
 }
 
-execute_keeps : (thread : ℕ) (machine : Machine) → Keeps machine → machine.place ≡ Loop → machine.flag ≡ false → Keeps (executed thread machine)
+execute_keeps : (context : Context) → KeepsThread context → context.thread.place ≡ Loop → context.thread.flag ≡ false → KeepsThread (executed context)
 unfolding executed
-execute_keeps thread machine keeps loop clear =
-    after_keeps thread (instruction_of thread machine) machine refl keeps loop clear
+execute_keeps context keeps loop clear =
+    after_keeps (instruction_of context) context refl keeps loop clear
 
 -- ---- calls
 
@@ -289,11 +291,14 @@ unfolding call.write
 write_leaves descriptor at wish shared =
     either_leaves _ _ _ shared (written_leaves _ descriptor at _ shared) (record { memory = refl; pending = refl })
 
+made_as_leaves : (asked : Option CallNo) (regs : Regs) (shared : Shared) → Leaves shared (call.made_as asked regs shared).shared
+made_as_leaves None regs shared = record { memory = refl; pending = refl }
+made_as_leaves (Some Write) regs shared = write_leaves _ _ _ shared
+made_as_leaves (Some ExitGroup) regs shared = record { memory = refl; pending = refl }
+
 made_leaves : (regs : Regs) (shared : Shared) → Leaves shared (call.made regs shared).shared
 unfolding call.made
-made_leaves regs shared =
-    either_leaves _ _ _ shared (write_leaves _ _ _ shared)
-    (either_leaves _ _ _ shared (record { memory = refl; pending = refl }) (record { memory = refl; pending = refl }))
+made_leaves regs shared = made_as_leaves (call.asked regs) regs shared
 
 pub called_leaves : (thread : ℕ) (regs : Regs) (shared : Shared) → Leaves shared (call.called thread regs shared).shared
 unfolding call.called
@@ -301,42 +306,42 @@ called_leaves thread regs shared =
     let leaves = made_leaves regs shared in
     record { memory = leaves.memory; pending = leaves.pending }
 
-after_call_keeps : (outcome : call.Outcome) (shared : Shared) (machine : Machine) → Leaves machine.shared shared → Keeps machine → machine.place ≡ Window → Keeps (after_call (record { shared = shared; outcome = outcome }) machine)
-after_call_keeps (call.Outcome.Answers answer) shared machine leaves keeps window = record {
+after_call_keeps : (outcome : call.Outcome) (shared : Shared) (context : Context) → Leaves context.shared shared → KeepsThread context → context.thread.place ≡ Window → KeepsThread (after_call (record { shared = shared; outcome = outcome }) context)
+after_call_keeps (call.Outcome.Answers answer) shared context leaves keeps window = record {
   noted_due = rw leaves.pending keeps.noted_due;
   flag_set = keeps.flag_set;
   window_clear = λ same. cc;
-  at_call = λ apart another. rw leaves.memory (instruction_calls another another machine.regs machine.shared.memory machine.shared.held shared.held (keeps.at_call (λ loop. cc) another));
+  at_call = λ apart another. rw leaves.memory (instruction_calls another another context.thread.regs context.shared.memory context.shared.held shared.held (keeps.at_call (λ loop. cc) another));
   zero = keeps.zero;
 }
-after_call_keeps (call.Outcome.Ends end) shared machine leaves keeps window = record {
+after_call_keeps (call.Outcome.Ends end) shared context leaves keeps window = record {
   noted_due = rw leaves.pending keeps.noted_due;
   flag_set = keeps.flag_set;
   window_clear = keeps.window_clear;
-  at_call = λ apart another. rw leaves.memory (instruction_calls another another machine.regs machine.shared.memory machine.shared.held shared.held (keeps.at_call apart another));
+  at_call = λ apart another. rw leaves.memory (instruction_calls another another context.thread.regs context.shared.memory context.shared.held shared.held (keeps.at_call apart another));
   zero = keeps.zero;
 }
 
-enter_keeps : (thread : ℕ) (machine : Machine) → Keeps machine → machine.place ≡ Window → Keeps (entered thread machine)
+enter_keeps : (context : Context) → KeepsThread context → context.thread.place ≡ Window → KeepsThread (entered context)
 unfolding entered
-enter_keeps thread machine keeps window =
-    let called = call.called thread machine.regs machine.shared in
-    after_call_keeps called.outcome called.shared machine (called_leaves thread machine.regs machine.shared) keeps window
+enter_keeps context keeps window =
+    let called = call.called context.thread.id context.thread.regs context.shared in
+    after_call_keeps called.outcome called.shared context (called_leaves context.thread.id context.thread.regs context.shared) keeps window
 
 -- ---- the step
 
-done_keeps : (thread : ℕ) (row : Row) (machine : Machine) → Keeps machine → Fits row machine → Keeps (done thread row machine)
-done_keeps thread (Note instance) machine keeps fits = note_keeps instance machine keeps fits
-done_keeps thread (Take instance) machine keeps fits = take_keeps instance machine keeps
-done_keeps thread ClearFlag machine keeps fits = clear_keeps machine keeps fits
-done_keeps thread Execute machine keeps fits = execute_keeps thread machine keeps fits.0 fits.1
-done_keeps thread Check machine keeps fits = check_keeps machine keeps fits
-done_keeps thread Enter machine keeps fits = enter_keeps thread machine keeps fits.0
-done_keeps thread (Return answer) machine keeps fits = return_keeps answer machine keeps
+done_keeps : (row : Row) (context : Context) → KeepsThread context → Fits row context → KeepsThread (done row context)
+done_keeps (Note instance) context keeps fits = note_keeps instance context keeps fits
+done_keeps (Take instance) context keeps fits = take_keeps instance context keeps
+done_keeps ClearFlag context keeps fits = clear_keeps context keeps fits
+done_keeps Execute context keeps fits = execute_keeps context keeps fits.0 fits.1
+done_keeps Check context keeps fits = check_keeps context keeps fits
+done_keeps Enter context keeps fits = enter_keeps context keeps fits.0
+done_keeps (Return answer) context keeps fits = return_keeps answer context keeps
 
-pub tick_keeps : (machine : Machine) → Keeps machine → Keeps (ticked machine)
+pub tick_keeps : (context : Context) → KeepsThread context → KeepsThread (ticked context)
 unfolding ticked
-tick_keeps machine keeps = record {
+tick_keeps context keeps = record {
   noted_due = keeps.noted_due;
   flag_set = keeps.flag_set;
   window_clear = keeps.window_clear;
@@ -345,8 +350,8 @@ tick_keeps machine keeps = record {
 }
 
 -- a step keeps what every state keeps
-pub step_keeps : (thread : ℕ) (machine : Machine) → Keeps machine → Keeps (stepped thread (ticked machine))
+pub step_keeps : (context : Context) → KeepsThread context → KeepsThread (stepped (ticked context))
 unfolding stepped
-step_keeps thread machine keeps =
-    let next = tick_keeps machine keeps in
-    done_keeps thread (row_of (ticked machine)) (ticked machine) next (row_fits (ticked machine) next)
+step_keeps context keeps =
+    let next = tick_keeps context keeps in
+    done_keeps (row_of (ticked context)) (ticked context) next (row_fits (ticked context) next)

@@ -5,6 +5,7 @@ pub mod SegmentFacts
 pub mod SoundFacts
 pub mod EffectFacts
 pub mod Noted
+pub mod AloneFacts
 pub mod KeptFacts
 pub mod GrowthFacts
 pub mod RunFacts

@@ -8,7 +8,7 @@ use Rattle.std.proofs.lemmas.Map.Views.{any-filter_same}
 use Rattle.guest_core.specs.declared.queue.Instance.{Instance}
 use Rattle.guest_core.specs.Kept.{has_id, all_have}
 
-same_id : (n : ℕ) → (n == n) ≡ true
+pub same_id : (n : ℕ) → (n == n) ≡ true
 same_id n = grind (arith, nat_tests)
 
 first_is : (x found : Instance) (rest : Bool) → x ≡ found → ((x.id == found.id) || rest) ≡ true

@@ -22,9 +22,10 @@ use Rattle.guest_core.specs.declared.decoder.Known.{Known}
 use Rattle.guest_core.specs.Apart.{IsApart, KeepsCode}
 use Rattle.guest_core.specs.Instruction as step
 use Rattle.guest_core.specs.Call as call
-use Rattle.guest_core.specs.Machine.{Machine}
+use Rattle.guest_core.specs.Machine.{Context, alone}
 use Rattle.guest_core.specs.Rows.{Row, Note, Take, ClearFlag, Execute, Check, Enter, Return, row_of, done, noted, taken, flag_cleared, after, executed, checked, after_call, entered, instruction_of, returned, stepped, ticked}
 use Rattle.guest_core.specs.Sound.{IsSound}
+use Rattle.guest_core.proofs.AloneFacts.{alone_keeps}
 use Rattle.guest_core.proofs.ApartFacts.{apart_written, code_written}
 use Rattle.guest_core.proofs.KeptFacts.{called_leaves, step_keeps}
 use Rattle.guest_core.proofs.KnownFacts.{known_stays}
@@ -114,48 +115,48 @@ instruction_stays thread regs after memory left held other is same = found_stays
 
 -- ---- rows
 
-after_stays : (thread : ℕ) (outcome : step.Outcome) (machine : Machine) → instruction_of thread machine ≡ outcome → IsApart machine.shared.memory → Stays machine.shared.memory (after outcome machine).shared.memory
-after_stays thread (step.Outcome.Runs regs memory held) machine same is = instruction_stays thread machine.regs regs machine.shared.memory memory machine.shared.held held is same
-after_stays thread step.Outcome.Calls machine same is = same_stays machine.shared.memory machine.shared.memory is refl
-after_stays thread (step.Outcome.Faults fault) machine same is = same_stays machine.shared.memory machine.shared.memory is refl
+after_stays : (outcome : step.Outcome) (context : Context) → instruction_of context ≡ outcome → IsApart context.shared.memory → Stays context.shared.memory (after outcome context).shared.memory
+after_stays (step.Outcome.Runs regs memory held) context same is = instruction_stays context.thread.id context.thread.regs regs context.shared.memory memory context.shared.held held is same
+after_stays step.Outcome.Calls context same is = same_stays context.shared.memory context.shared.memory is refl
+after_stays (step.Outcome.Faults fault) context same is = same_stays context.shared.memory context.shared.memory is refl
 
-after_call_memory : (called : call.Called) (machine : Machine) → (after_call called machine).shared.memory ≡ called.shared.memory
-after_call_memory called machine = elim called.outcome as (λ outcome. (after_call (record { shared = called.shared; outcome = outcome }) machine).shared.memory ≡ called.shared.memory) [
+after_call_memory : (called : call.Called) (context : Context) → (after_call called context).shared.memory ≡ called.shared.memory
+after_call_memory called context = elim called.outcome as (λ outcome. (after_call (record { shared = called.shared; outcome = outcome }) context).shared.memory ≡ called.shared.memory) [
   | call.Outcome.Answers answer ↦ refl
   | call.Outcome.Ends end ↦ refl
 ]
 
-done_stays : (thread : ℕ) (row : Row) (machine : Machine) → IsApart machine.shared.memory → Stays machine.shared.memory (done thread row machine).shared.memory
+done_stays : (row : Row) (context : Context) → IsApart context.shared.memory → Stays context.shared.memory (done row context).shared.memory
 unfolding noted taken flag_cleared executed checked entered returned
-done_stays thread (Note instance) machine is = same_stays machine.shared.memory machine.shared.memory is refl
-done_stays thread (Take instance) machine is = same_stays machine.shared.memory machine.shared.memory is refl
-done_stays thread ClearFlag machine is = same_stays machine.shared.memory machine.shared.memory is refl
-done_stays thread Execute machine is = after_stays thread (instruction_of thread machine) machine refl is
-done_stays thread Check machine is = same_stays machine.shared.memory machine.shared.memory is refl
-done_stays thread Enter machine is =
-    let called = call.called thread machine.regs machine.shared in
-    rw (after_call_memory called machine) (same_stays machine.shared.memory called.shared.memory is (called_leaves thread machine.regs machine.shared).memory)
-done_stays thread (Return answer) machine is = same_stays machine.shared.memory machine.shared.memory is refl
+done_stays (Note instance) context is = same_stays context.shared.memory context.shared.memory is refl
+done_stays (Take instance) context is = same_stays context.shared.memory context.shared.memory is refl
+done_stays ClearFlag context is = same_stays context.shared.memory context.shared.memory is refl
+done_stays Execute context is = after_stays (instruction_of context) context refl is
+done_stays Check context is = same_stays context.shared.memory context.shared.memory is refl
+done_stays Enter context is =
+    let called = call.called context.thread.id context.thread.regs context.shared in
+    rw (after_call_memory called context) (same_stays context.shared.memory called.shared.memory is (called_leaves context.thread.id context.thread.regs context.shared).memory)
+done_stays (Return answer) context is = same_stays context.shared.memory context.shared.memory is refl
 
-pub step_stays : (thread : ℕ) (machine : Machine) → IsApart machine.shared.memory → Stays machine.shared.memory (stepped thread (ticked machine)).shared.memory
+pub step_stays : (context : Context) → IsApart context.shared.memory → Stays context.shared.memory (stepped (ticked context)).shared.memory
 unfolding stepped ticked
-step_stays thread machine is = done_stays thread (row_of (ticked machine)) (ticked machine) is
+step_stays context is = done_stays (row_of (ticked context)) (ticked context) is
 
-pub new_code : (thread : ℕ) (old new : Machine) → IsApart old.shared.memory → new ≡ stepped thread (ticked old) → KeepsCode old.shared.memory new.shared.memory
-new_code thread old new is same = rw same (step_stays thread old is).code
+pub new_code : (old new : Context) → IsApart old.shared.memory → new ≡ stepped (ticked old) → KeepsCode old.shared.memory new.shared.memory
+new_code old new is same = rw same (step_stays old is).code
 
 -- ---- what is kept of every state
 
-step_sound : (thread : ℕ) (machine : Machine) (known : List Known) → IsSound machine known → IsSound (stepped thread (ticked machine)) known
-step_sound thread machine known sound =
-    let stays = step_stays thread machine sound.apart in
+step_sound : (context : Context) (known : List Known) → IsSound (alone context) known → IsSound (alone (stepped (ticked context))) known
+step_sound context known sound =
+    let stays = step_stays context sound.apart in
     record {
-      keeps = step_keeps thread machine sound.keeps;
+      keeps = alone_keeps (stepped (ticked context)) (step_keeps context sound.keeps.each.0);
       apart = stays.apart;
-      right = known_stays machine.shared.memory (stepped thread (ticked machine)).shared.memory known stays.code sound.right;
+      right = known_stays context.shared.memory (stepped (ticked context)).shared.memory known stays.code sound.right;
     }
 
 -- also after a step that may want memory and leave the state
-pub try_sound : {E : Type 0} (result : Result (Unit {0}) E) (thread : ℕ) (old new : Machine) (known : List Known) → OnOk result (new ≡ stepped thread (ticked old)) → OnErr result (new ≡ old) → IsSound old known → IsSound new known
-try_sound (Ok done) thread old new known ok err sound = rw ok (step_sound thread old known sound)
-try_sound (Err error) thread old new known ok err sound = rw err sound
+pub try_sound : {E : Type 0} (result : Result (Unit {0}) E) (old new : Context) (known : List Known) → OnOk result (new ≡ stepped (ticked old)) → OnErr result (new ≡ old) → IsSound (alone old) known → IsSound (alone new) known
+try_sound (Ok done) old new known ok err sound = rw ok (step_sound old known sound)
+try_sound (Err error) old new known ok err sound = rw err sound

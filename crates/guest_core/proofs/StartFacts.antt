@@ -19,11 +19,17 @@ use Rattle.guest_core.proofs.SegmentFacts.{all_one_way, apart_loaded}
 pub start_keeps : (program : Program) (devices : ℕ) → Keeps (started program devices)
 unfolding started
 start_keeps program devices = record {
-  noted_due = refl;
-  flag_set = λ clear. refl;
-  window_clear = λ window. refl;
-  at_call = λ apart. absurd (apart refl);
-  zero = refl;
+  one = refl;
+  each = (
+    record {
+      noted_due = refl;
+      flag_set = λ clear. refl;
+      window_clear = λ window. refl;
+      at_call = λ apart. absurd (apart refl);
+      zero = refl;
+    },
+    tt,
+  );
 }
 
 -- no page of a file, of the trampoline and of the stack can be both written and executed

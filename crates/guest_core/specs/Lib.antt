@@ -6,6 +6,7 @@ pub mod Known
 pub mod Apart
 pub mod Sound
 pub mod Signals
+pub mod CallTable
 pub mod Call
 pub mod Rows
 pub mod Effects

@@ -1,15 +1,19 @@
 -- What callers ask of events and of lists of them.
-use Rattle.std.specs.Prelude.{◌≡◌, ℕ, ◌+◌, ◌<◌, None, Some, List, length, slice_index_or, take}
+use Rattle.std.specs.Prelude.{◌≡◌, ℕ, ◌+◌, ◌<◌, Option, None, Some, List, length, slice_index_or, take}
 use Rattle.guest_core.specs.declared.machine.CoreRefusal.{CoreRefusal}
 use Rattle.guest_core.specs.declared.machine.CoreRefusal.TheVariants.{NotNow, Memory}
 use Rattle.guest_core.specs.declared.events.Event.{Event}
 use Rattle.guest_core.specs.declared.events.Event.TheVariants.{Step}
-use Rattle.guest_core.specs.Machine.{Machine}
+use Rattle.guest_core.specs.Machine.{Machine, Thread, context_of, thread_at}
 use Rattle.guest_core.specs.Rows.{IsSteady}
 use Rattle.guest_core.specs.Event.{event_after, run}
 
+abbrev pub IsSteadyAs : Option Thread → Machine → Type 0
+IsSteadyAs None machine = ⊥
+IsSteadyAs (Some thread) machine = IsSteady (context_of thread machine)
+
 abbrev pub EventIsSteady : Machine → Event → Type 0
-EventIsSteady machine (Step thread) = IsSteady thread machine
+EventIsSteady machine (Step id) = IsSteadyAs (thread_at id machine.threads) machine
 
 -- the event is enabled, writes to no device, and has an id left where it faults
 pub record TakesNoMemory (machine : Machine) (event : Event) : Type 0 where

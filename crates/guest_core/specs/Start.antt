@@ -15,7 +15,7 @@ use Rattle.guest_pages.specs.declared.rights.Rights.{Rights}
 use Rattle.guest_pages.specs.Operations.{placed, protected, written}
 use Rattle.guest_pages.specs.Ranges.{Range}
 use Rattle.word_memory.specs.Reservations.{joined}
-use Rattle.guest_core.specs.Machine.{Shared, Machine, first_thread}
+use Rattle.guest_core.specs.Machine.{Shared, Machine, alone, first_thread}
 
 -- a program: its file, its arguments, the first of which is its name, and its environment
 pub record Program : Type 0 where
@@ -69,14 +69,11 @@ first_regs program = record {
 }
 
 unfoldable pub started : Program → ℕ → Machine
-started program devices = record {
+started program devices = alone (record {
   shared = first_shared program devices;
-  regs = first_regs program;
-  place = Loop;
-  flag = false;
-  noted = [];
+  thread = record { id = first_thread; regs = first_regs program; place = Loop; flag = false; noted = [] };
   end = None;
-}
+})
 
 -- ---- refusals
 

@@ -1,7 +1,9 @@
 -- What the code's state stands for.
+use Rattle.std.specs.Prelude.{[], ◌∷◌}
 use Rattle.guest_core.specs.declared.state.Host.{Host}
 use Rattle.guest_core.specs.declared.state.State.{State}
-use Rattle.guest_core.specs.Machine.{Shared, Machine}
+use Rattle.guest_core.specs.declared.thread.Thread as code
+use Rattle.guest_core.specs.Machine.{Shared, Thread, Machine, Context}
 
 abbrev pub shared : Host → Shared
 shared host = record {
@@ -13,12 +15,22 @@ shared host = record {
   clock = host.clock;
 }
 
+-- what is noted stands beside what is pending, and is the one thread's
+abbrev pub thread_of : Host → code.Thread → Thread
+thread_of host thread = record {
+  id = thread.id;
+  regs = thread.regs;
+  place = thread.place;
+  flag = thread.flag;
+  noted = host.pending.noted;
+}
+
+abbrev pub context : Host → code.Thread → Context
+context host thread = record { shared = shared host; thread = thread_of host thread; end = host.end }
+
 abbrev pub machine : State → Machine
 machine state = record {
   shared = shared state.host;
-  regs = state.regs;
-  place = state.place;
-  flag = state.flag;
-  noted = state.host.pending.noted;
-  end = state.end;
+  threads = thread_of state.host state.thread ∷ [];
+  end = state.host.end;
 }

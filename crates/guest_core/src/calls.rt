@@ -1,22 +1,17 @@
-ghost use Rattle.std.specs.Prelude.{◌≡◌, ◌≢◌, ◌<◌, ◌≤◌, length, None, IfOk, IfSome, IfNone, IsSome, OnErr, IsOk, MatchResult};
-ghost use Rattle.guest_core.specs.Call.{called, made, write, exit_group, refused, bad_address, bad_descriptor, no_such_call};
+ghost use Rattle.std.specs.Prelude.{◌≡◌, ◌<◌, ◌≤◌, length, None, IfOk, IfSome, IfNone, IsSome, OnErr, IsOk, MatchResult};
+ghost use Rattle.guest_core.specs.Call.{called, made, IsSteady, write, exit_group, refused, bad_address, bad_descriptor, no_such_call};
 ghost use Rattle.guest_pages.specs.Faults.{first_fault, readable};
 ghost use Rattle.guest_pages.specs.Operations.{bytes_at};
 ghost use Rattle.guest_core.specs.State.{shared};
 ghost use Rattle.guest_core.specs.Outcomes.{call_of};
-ghost use Rattle.isa_exec.specs.Registers.{register};
 
+use crate::call_table::{CallNo, call_of};
 use crate::ends::End;
 use crate::state::Host;
 use guest_pages::{Pages, Rights};
 use isa_exec::Regs;
 use le_fields::Bytes;
 use std::alloc::{AllocError, Global};
-
-/// The number of write(2).
-pub const WRITE: u64 = 64;
-
-const EXIT_GROUP: u64 = 94;
 
 const EBADF: i64 = 9;
 
@@ -50,8 +45,9 @@ impl Host {
     pub fn call(&mut self, thread: u32, regs: &Regs) -> Result<Outcome, AllocError>
         ensures ok { IfOk result (λ outcome. call_of outcome self.new ≡ called thread regs.now (shared self.old)) }
         ensures noted { self.new.pending.noted ≡ self.old.pending.noted }
+        ensures end { self.new.end ≡ self.old.end }
         ensures err { OnErr result (self.new ≡ self.old) }
-        ensures steady { register regs.now 17 ≢ 64 → IsOk result }
+        ensures steady { IsSteady regs.now → IsOk result }
     {
         let outcome = self.make(regs)?;
         self.held.end(thread);
@@ -62,14 +58,15 @@ impl Host {
     fn make(&mut self, regs: &Regs) -> Result<Outcome, AllocError>
         ensures ok { IfOk result (λ outcome. call_of outcome self.new ≡ made regs.now (shared self.old)) }
         ensures noted { self.new.pending.noted ≡ self.old.pending.noted }
+        ensures end { self.new.end ≡ self.old.end }
         ensures err { OnErr result (self.new ≡ self.old) }
-        ensures steady { register regs.now 17 ≢ 64 → IsOk result }
+        ensures steady { IsSteady regs.now → IsOk result }
     {
         let [a0, a1, a2] = [regs.register(10), regs.register(11), regs.register(12)];
-        match regs.register(17) {
-            WRITE => Ok(Outcome::Answer(self.write(a0, a1, a2)?)),
-            EXIT_GROUP => Ok(Outcome::End(End::Exit((a0 % 256) as u8))),
-            _ => Ok(Outcome::Answer(-ENOSYS)),
+        match call_of(regs.register(17)) {
+            Some(CallNo::Write) => Ok(Outcome::Answer(self.write(a0, a1, a2)?)),
+            Some(CallNo::ExitGroup) => Ok(Outcome::End(End::Exit((a0 % 256) as u8))),
+            None => Ok(Outcome::Answer(-ENOSYS)),
         }
     }
 
@@ -80,6 +77,7 @@ impl Host {
     fn write(&mut self, descriptor: u64, at: u64, wish: u64) -> Result<i64, AllocError>
         ensures ok { IfOk result (λ answer. call_of (Outcome.Answer answer) self.new ≡ write descriptor at wish (shared self.old)) }
         ensures noted { self.new.pending.noted ≡ self.old.pending.noted }
+        ensures end { self.new.end ≡ self.old.end }
         ensures err { OnErr result (self.new ≡ self.old) }
     {
         if self.outputs.len() as u64 <= descriptor {

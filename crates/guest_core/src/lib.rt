@@ -3,11 +3,12 @@
 //! # Model
 //!
 //! Contracts see a `Core` as a `Machine`: what the system has (`Shared`: the memory, what was written to each device,
-//! the pending signals, the clock), and of its one thread the registers, the place, the flag and the signals that it
-//! has noted. `event_after` gives the machine after an event, none where the event isn't enabled; `run` carries that
-//! over a list of events. The type `Core` keeps what `Keeps` says of every state.
+//! the pending signals, the clock), and of each thread its id, the registers, the place, the flag and the signals that
+//! it has noted. There is one thread yet. `event_after` gives the machine after an event, none where the event isn't
+//! enabled; `run` carries that over a list of events. The type `Core` keeps what `Keeps` says of every state.
 //!
-//! A thread's step is made by the first row that fits its state (`row_of`), each row a function of the machine:
+//! A thread's step is made by the first row that fits (`row_of`), each row a function of what the system has and of that
+//! thread alone (`Context`):
 //!
 //! ```text
 //!                    a due signal isn't noted: noted, flag set, Window -> Start
@@ -43,12 +44,17 @@
 //! time are the project's own.
 #![tactic(auto)]
 
+mod call_table;
 mod calls;
 mod decoder;
+mod effects;
 mod ends;
 mod events;
 mod executing;
+mod faults;
+mod finding;
 mod machine;
+mod near;
 mod output;
 mod places;
 mod queue;
@@ -56,11 +62,14 @@ mod rows;
 mod signal;
 mod starting;
 mod state;
+mod thread;
 
+pub use call_table::{CallNo, call_of};
 pub use calls::read_bytes;
 pub use ends::End;
 pub use events::Event;
-pub use executing::{Made, is_at_call, make_instruction};
+pub use executing::{Made, make_instruction};
+pub use finding::is_at_call;
 pub use machine::{Core, CoreParts, CoreRefusal, FIRST_THREAD};
 pub use output::Outputs;
 pub use places::Place;

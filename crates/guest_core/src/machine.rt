@@ -1,25 +1,26 @@
-ghost use Rattle.std.specs.Prelude.{◌≡◌, ◌≤◌, ◌<◌, replicate, [], None, Some, length, take, slice_get, slice_index_or, is_none, ◌==◌, if◌then◌else◌, OnOk, OnErr, IfErr, IfSome, IsOk};
-ghost use Rattle.std.specs.Option.{option_copied};
+ghost use Rattle.std.specs.Prelude.{◌≡◌, ◌≤◌, ◌<◌, replicate, [], ◌∷◌, None, Some, length, map, take, slice_get, slice_index_or, is_none, ◌==◌, OnOk, OnErr, IfErr, IfSome, IsOk};
+ghost use Rattle.std.specs.Option.{option_copied, option_map};
 ghost use Rattle.guest_core.specs.Event.{is_enabled, event_after, run};
 ghost use Rattle.guest_core.specs.Ahead.{AllGoOn, GoesOn};
 ghost use Rattle.guest_core.specs.Apart.{KeepsCode};
-ghost use Rattle.guest_core.specs.Machine.{first_thread};
+ghost use Rattle.guest_core.specs.Machine.{thread_at};
 ghost use Rattle.guest_core.specs.Runs.{TakesNoMemory, Stopped};
 ghost use Rattle.guest_core.specs.Growth.{lengthens, Lengthened};
 
-use crate::calls::WRITE;
+use crate::call_table::{CallNo, call_of};
 use crate::decoder::Decoder;
 use crate::ends::End;
 use crate::events::Event;
 use crate::output::Outputs;
 use crate::places::Place;
 use crate::state::{Host, State};
+use crate::thread::Thread;
 use guest_pages::Pages;
 use isa_exec::Regs;
 use std::marker::Model;
 use word_memory::Reservations;
 
-/// The one thread of a process.
+/// The first thread of a process.
 pub const FIRST_THREAD: u32 = 1000;
 
 /// Why an event was not made. The state is as before.
@@ -87,8 +88,7 @@ impl Core {
         if !self.enabled(event) {
             return Err(CoreRefusal::NotNow);
         }
-        let Event::Step(thread) = *event;
-        match self.state.step(thread) {
+        match self.state.thread.step(&mut self.state.host) {
             Ok(()) => Ok(()),
             Err(_) => Err(CoreRefusal::Memory),
         }
@@ -96,20 +96,23 @@ impl Core {
 
     /// Makes steps of the thread that make an instruction, at most `limit`, up to the first that asks for a call, faults
     /// or does something else, and tells how many it made. It takes no memory, and constant time for each instruction,
-    /// but for the reservations of threads, which a store goes through.
-    pub fn run_on(&mut self, limit: u32) -> u32
+    /// but for the reservations of threads, which a store goes through while one stands.
+    pub fn run_on(&mut self, thread: u32, limit: u32) -> u32
         ensures most { result ≤ limit }
-        ensures ran { run (Some self.old) (replicate result (Event.Step first_thread)) ≡ Some self.new }
-        ensures plain { AllGoOn first_thread self.old result }
-        ensures stops { result < limit → GoesOn first_thread self.new → ⊥ }
+        ensures ran { run (Some self.old) (replicate result (Event.Step thread)) ≡ Some self.new }
+        ensures plain { AllGoOn thread self.old result }
+        ensures stops { result < limit → GoesOn thread self.new → ⊥ }
         ensures outputs { self.new.shared.outputs ≡ self.old.shared.outputs }
         ensures end { self.new.end ≡ self.old.end }
         ensures code { KeepsCode self.old.shared.memory self.new.shared.memory }
     {
-        if !self.state.is_ready() {
+        if thread != self.state.thread.id {
             return 0;
         }
-        self.state.run_on(FIRST_THREAD, &mut self.decoder, limit)
+        if !self.state.thread.is_ready(&self.state.host) {
+            return 0;
+        }
+        self.state.run_on(&mut self.decoder, limit)
     }
 
     /// Makes events up to the first that is refused, whose index is told with its refusal. The state is that before
@@ -132,14 +135,17 @@ impl Core {
         ensures device { result ≡ lengthens self.now event.now }
         ensures within { IfSome result (λ device. device < length self.now.shared.outputs) }
     {
-        match *event {
-            Event::Step(_) => {}
-        }
-        if self.state.place != Place::Window || self.state.regs.register(17) != WRITE {
+        let Event::Step(id) = *event;
+        let State { host, thread } = &self.state;
+        if id != thread.id || thread.place != Place::Window {
             return None;
         }
-        let descriptor = self.state.regs.register(10);
-        if descriptor < self.state.host.outputs.len() as u64 {
+        match call_of(thread.regs.register(17)) {
+            Some(CallNo::Write) => {}
+            Some(CallNo::ExitGroup) | None => return None,
+        }
+        let descriptor = thread.regs.register(10);
+        if descriptor < host.outputs.len() as u64 {
             Some(descriptor as usize)
         } else {
             None
@@ -151,7 +157,7 @@ impl Core {
         ensures { result ≡ is_enabled self.now event.now }
     {
         match *event {
-            Event::Step(thread) => self.state.end.is_none() && thread == FIRST_THREAD,
+            Event::Step(thread) => self.state.host.end.is_none() && thread == self.state.thread.id,
         }
     }
 
@@ -159,26 +165,26 @@ impl Core {
     pub fn ended(&self) -> Option<End>
         ensures { result ≡ self.now.end }
     {
-        self.state.end
+        self.state.host.end
     }
 
     /// The registers of a thread, `None` exactly where it does not live.
     pub fn regs(&self, thread: u32) -> Option<&Regs>
-        ensures { option_copied result ≡ (if thread == FIRST_THREAD then Some self.now.regs else None) }
+        ensures { option_copied result ≡ option_map (λ of. of.regs) (thread_at thread self.now.threads) }
     {
-        if thread == FIRST_THREAD {
-            Some(&self.state.regs)
+        if thread == self.state.thread.id {
+            Some(&self.state.thread.regs)
         } else {
             None
         }
     }
 
-    /// The memory, the outputs and the registers.
+    /// The memory, the outputs, and the one thread's registers.
     pub fn into_parts(self) -> CoreParts
         ensures memory { result.memory ≡ self.shared.memory }
         ensures held { result.held ≡ self.shared.held }
         ensures outputs { result.outputs ≡ self.shared.outputs }
-        ensures regs { result.regs ≡ self.regs }
+        ensures regs { map (λ thread. thread.regs) self.threads ≡ result.regs ∷ [] }
     {
         let Core { state, decoder: _ } = self;
         let State {
@@ -188,8 +194,7 @@ impl Core {
                 outputs,
                 ..
             },
-            regs,
-            ..
+            thread: Thread { regs, .. },
         } = state;
         CoreParts {
             memory,

@@ -10,6 +10,7 @@ use crate::output::Outputs;
 use crate::places::Place;
 use crate::queue::Pending;
 use crate::state::{Host, State};
+use crate::thread::Thread;
 use elf_file::Elf;
 use file_tree::Text;
 use guest_pages::{Pages, Rights};
@@ -115,11 +116,14 @@ fn state_of(
             outputs,
             pending: Pending::new(),
             clock: 0,
+            end: None,
         },
-        regs: Regs { pc: elf.entry, x },
-        place: Place::Loop,
-        flag: false,
-        end: None,
+        thread: Thread {
+            id: FIRST_THREAD,
+            regs: Regs { pc: elf.entry, x },
+            place: Place::Loop,
+            flag: false,
+        },
     })
 }
 

@@ -57,10 +57,19 @@ fn a_run_up_to_its_end(rt: HostRuntime) -> Result<(), Fail> {
 }
 
 #[test]
+fn a_call_has_its_number(rt: HostRuntime) -> Result<(), Fail> {
+    assert_eq!(rt; call_of(64), Some(CallNo::Write));
+    assert_eq!(rt; call_of(94), Some(CallNo::ExitGroup));
+    assert_eq!(rt; call_of(65), None);
+    Ok(())
+}
+
+#[test]
 fn a_run_ahead_stops_before_the_call(rt: HostRuntime) -> Result<(), Fail> {
     let mut core = started(rt.alloc())?;
-    assert_eq!(rt; core.run_on(1), 1);
-    assert_eq!(rt; core.run_on(10), 1);
+    assert_eq!(rt; core.run_on(1001, 10), 0);
+    assert_eq!(rt; core.run_on(FIRST_THREAD, 1), 1);
+    assert_eq!(rt; core.run_on(FIRST_THREAD, 10), 1);
     match core.regs(FIRST_THREAD) {
         Some(regs) => {
             assert_eq!(rt; regs.pc, 0x10080);
@@ -69,12 +78,12 @@ fn a_run_ahead_stops_before_the_call(rt: HostRuntime) -> Result<(), Fail> {
         }
         None => assert!(rt; false),
     }
-    assert_eq!(rt; core.run_on(10), 0);
+    assert_eq!(rt; core.run_on(FIRST_THREAD, 10), 0);
     // the call has a place of its own, and nothing is made ahead there
     assert_eq!(rt; core.run_events(&[STEP]), Ok(()));
-    assert_eq!(rt; core.run_on(10), 0);
+    assert_eq!(rt; core.run_on(FIRST_THREAD, 10), 0);
     assert_eq!(rt; core.run_events(&[STEP, STEP]), Ok(()));
     assert!(rt; matches!(core.ended(), Some(End::Exit(7))));
-    assert_eq!(rt; core.run_on(10), 0);
+    assert_eq!(rt; core.run_on(FIRST_THREAD, 10), 0);
     Ok(())
 }

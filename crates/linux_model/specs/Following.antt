@@ -1,4 +1,4 @@
--- Where a list of labels stops being a run.
+-- Where a list of labels stops being followed.
 use Rattle.std.specs.Prelude.{◌≡◌, ℕ, ◌+◌, ◌<◌, None, Some, List, length, take}
 use Rattle.linux_model.specs.declared.following.FollowFault.{FollowFault}
 use Rattle.linux_model.specs.declared.following.FollowFault.TheVariants.{NotAllowed, Memory}
@@ -13,7 +13,13 @@ pub record StopsAt (start : ProcessState) (labels : List Label) (index : ℕ) : 
   pub before : follow (Some start) (take index labels) ≡ Some last
   pub refused : follow (Some start) (take (index + 1) labels) ≡ None
 
--- the fault of a list of labels. Want of memory is free
+-- for want of memory the labels are followed no further than some label that is allowed
+pub record Wants (start : ProcessState) (labels : List Label) : Type 0 where
+  pub index : ℕ
+  pub within : index < length labels
+  pub allowed : follow (Some start) (take (index + 1) labels) ≡ None → ⊥
+
+-- the fault of a list of labels
 abbrev pub IsStopped : ProcessState → List Label → FollowFault → Type 0
 IsStopped start labels (NotAllowed index) = StopsAt start labels index
-IsStopped start labels Memory = Unit {0}
+IsStopped start labels Memory = Wants start labels

@@ -1,3 +1,4 @@
 pub mod Process
 pub mod Steps
 pub mod Following
+pub mod Walker

@@ -2,17 +2,20 @@
 //!
 //! # Model
 //!
-//! A `ProcessState` has what the system has (`Shared`, the same record as the emulator's), the registers and the end.
-//! It changes by labels: `Instr` makes an instruction, `Call` a system call at an `ecall`, `Take` takes the first due
-//! signal, and `Tick` lets 100 ns pass. `step` gives the state after a label, none where the label isn't allowed, and
-//! `follow` carries that over a list. What is seen of a run is what was written to each device, and the end.
+//! A `ProcessState` has what the system has (`Shared`, the same record as the emulator's), of each thread its id and its
+//! registers, and the end. There is one thread yet. It changes by labels: `Instr` makes an instruction of a thread,
+//! `Call` its system call at an `ecall`, `Take` takes the first signal that is due to it, and `Tick` lets 100 ns pass.
+//! What a thread's label sees and changes is what the system has and that thread alone (`TaskContext`). `step` gives the
+//! state after a label, none where the label isn't allowed, and `follow` carries that over a list. What is seen of a run
+//! is what was written to each device, and the end.
 //!
 //! The effects of instructions, calls and signals are the definitions that the emulator's core cites too. The rest is
 //! apart: the process knows no place, flag, window, noted signal or journal.
 //!
 //! # What the layer above knows
 //!
-//! The definitions. The walker `follow` is for tests: it is plain, and stands apart from the core's step.
+//! The definitions. The walker `follow` is for tests: it is plain, and stands apart from the core's step. It tells the first
+//! label that isn't allowed, and want of memory only at one that is.
 //!
 //! # Sources
 //!
@@ -21,10 +24,13 @@
 
 mod following;
 mod labels;
+mod state;
+mod task;
 mod walker;
 
 pub use following::{FollowFault, follow};
 pub use labels::Label;
+pub use task::Task;
 pub use walker::Process;
 
 #[cfg(test)]

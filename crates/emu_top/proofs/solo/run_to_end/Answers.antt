@@ -1,4 +1,4 @@
-use Rattle.std.proofs.Common.{◌<◌, ◌≤◌, ◌+◌, ◌-◌, ◌∙◌, ap, length, map, arith}
+use Rattle.std.proofs.Common.{◌<◌, ◌≤◌, ◌+◌, ◌-◌, ap, length, arith}
 use Rattle.emu_top.proofs.RunFacts.{SoFar, Turned, ahead_longer, so_far_ahead, so_far_turned, stopped_at, stopped_here, turned_longer}
 use Rattle.emu_top.proofs.SendFacts.{unread_on, unread_still}
 use Rattle.emu_top.proofs.solo.run_to_end.Goals as goal
@@ -15,6 +15,7 @@ returns-in-Err-clause-stopped g c =
       devices = c.loop.invariant.devices;
       outputs = c.loop.invariant.outputs;
       none_fell = c.loop.invariant.none_fell;
+      still = c.loop.invariant.still;
     } in
     let room : length now.journal.events + (c.budget.result - c.count.result - 1) ≤ first.journal.budget = omega (arith, c.loop.invariant.within, c.loop.invariant.budget, c.budget.ensures, c.count.ensures, c.if-left-eq0.false) in
     stopped_here g.D.Device.held g.D.Device.failed_writes first c.go_ahead.new.run (so_far_ahead g.D.Device.held g.D.Device.failed_writes first now c.go_ahead.new.run _ so_far c.go_ahead.ensures room)
@@ -31,6 +32,7 @@ returns-in-Err-turn-clause-stopped g c =
       devices = c.loop.invariant.devices;
       outputs = c.loop.invariant.outputs;
       none_fell = c.loop.invariant.none_fell;
+      still = c.loop.invariant.still;
     } in
     let room : length now.journal.events + (c.budget.result - c.count.result - 1) ≤ first.journal.budget = omega (arith, c.loop.invariant.within, c.loop.invariant.budget, c.budget.ensures, c.count.ensures, c.if-left-eq0.false) in
     let ahead = so_far_ahead g.D.Device.held g.D.Device.failed_writes first now c.go_ahead.new.run _ so_far c.go_ahead.ensures room in
@@ -49,6 +51,7 @@ loop-preserved g c =
       devices = c.loop.invariant.devices;
       outputs = c.loop.invariant.outputs;
       none_fell = c.loop.invariant.none_fell;
+      still = c.loop.invariant.still;
     } in
     let room : length now.journal.events + (c.budget.result - c.count.result - 1) ≤ first.journal.budget = omega (arith, c.loop.invariant.within, c.loop.invariant.budget, c.budget.ensures, c.count.ensures, c.if-left-eq0.false) in
     let ahead = so_far_ahead g.D.Device.held g.D.Device.failed_writes first now c.go_ahead.new.run _ so_far c.go_ahead.ensures room in
@@ -60,6 +63,7 @@ loop-preserved g c =
       devices = c.in-Ok-turn.ensures.devices;
       outputs = c.in-Ok-turn.ensures.outputs;
       none_fell = c.in-Ok-turn.ensures.none_fell;
+      still = c.in-Ok-turn.ensures.still;
     } in
     let next = so_far_turned g.D.Device.held g.D.Device.failed_writes first c.go_ahead.new.run c.turn.new.run ahead turned more in
     record {
@@ -71,7 +75,7 @@ loop-preserved g c =
       devices = next.devices;
       outputs = next.outputs;
       none_fell = next.none_fell;
-      still = c.in-Ok-turn.ensures.still ∙ ap (λ devices. map g.D.Device.failed_writes devices.items) c.go_ahead.ensures.devices ∙ c.loop.invariant.still;
+      still = next.still;
       unread = unread_on g.D.Device.left g.D.Device.failed_reads first.devices.items c.go_ahead.new.run.devices.items c.turn.new.run.devices.items
           (unread_on g.D.Device.left g.D.Device.failed_reads first.devices.items now.devices.items c.go_ahead.new.run.devices.items c.loop.invariant.unread
           (unread_still g.D.Device.left g.D.Device.failed_reads now.devices.items c.go_ahead.new.run.devices.items (ap (λ devices. devices.items) c.go_ahead.ensures.devices)))

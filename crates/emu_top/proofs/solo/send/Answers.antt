@@ -1,4 +1,4 @@
-use Rattle.emu_top.proofs.SendFacts.{send_ok, send_err, none_fell, rose_at, still_at, unread_at}
+use Rattle.emu_top.proofs.SendFacts.{send_ok, send_err, none_fell, rose_at, still_at, unread_at, others_still}
 use Rattle.emu_top.proofs.solo.send.Goals as goal
 
 pub returns-clause-ok : goal.returns-clause-ok
@@ -24,3 +24,6 @@ returns-clause-unread g c =
 pub returns-clause-still : goal.returns-clause-still
 returns-clause-still g c =
     still_at g.D.Device.failed_writes c.take.result c.args.devices.now.items c.args.device c.index_mut.result.now c.take.new.self c.index_mut.ensures.value c.take.ensures.writes.still
+
+pub returns-clause-others : goal.returns-clause-others
+returns-clause-others g c = others_still g.D.Device.failed_writes c.args.devices.now.items c.args.device c.take.new.self

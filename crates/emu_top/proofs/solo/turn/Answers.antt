@@ -39,6 +39,7 @@ returns-in-Err-send-clause-halted g c =
       record {
         within = omega (arith, c.in-Some.ensures.within, c.in-Err-send.ensures.count, c.requires.devices);
         rose = c.in-Err-send.ensures.rose;
+        others = c.in-Err-send.ensures.others;
       },
       sym c.in-Some.ensures.device,
     )
