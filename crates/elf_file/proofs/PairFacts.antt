@@ -7,18 +7,18 @@ use Rattle.elf_file.specs.Below.{below, any_below}
 use Rattle.elf_file.specs.Segments.{SegmentImage, all_pairs, shares_byte, clashes, runs_at, is_writable, is_executable}
 use Rattle.elf_file.specs.Headers.{is_loaded, is_placed, segment, segment_if, segments_below, overlap_at, clash_at, is_writable_code, runs_entry, entry}
 use Rattle.elf_file.specs.Checks.{first_fault, pair_checks, overlap_checks, segment_checks}
-use Rattle.elf_file.proofs.Faults.{below_each}
+use Rattle.elf_file.proofs.Faults.{below_each, first_fault_passes}
 use Rattle.elf_file.proofs.BelowFacts.{any_below_found}
 
-and_true : (a b : Bool) → a ≡ true → b ≡ true → (a && b) ≡ true
+pub and_true : (a b : Bool) → a ≡ true → b ≡ true → (a && b) ≡ true
 and_true true b one other = other
 and_true false b one other = cc
 
-and_first : (a b : Bool) → (a && b) ≡ true → a ≡ true
+pub and_first : (a b : Bool) → (a && b) ≡ true → a ≡ true
 and_first true b both = refl
 and_first false b both = both
 
-and_second : (a b : Bool) → (a && b) ≡ true → b ≡ true
+pub and_second : (a b : Bool) → (a && b) ≡ true → b ≡ true
 and_second true b both = both
 and_second false b both = cc
 
@@ -30,15 +30,15 @@ or_second : (a b : Bool) → (a || b) ≡ false → b ≡ false
 or_second true b both = cc
 or_second false b both = both
 
-or_cases : (a b : Bool) → (a || b) ≡ true → (a ≡ true) ⊎ (b ≡ true)
+pub or_cases : (a b : Bool) → (a || b) ≡ true → (a ≡ true) ⊎ (b ≡ true)
 or_cases true b either = inl refl
 or_cases false b either = inr either
 
-or_left : (a b : Bool) → a ≡ true → (a || b) ≡ true
+pub or_left : (a b : Bool) → a ≡ true → (a || b) ≡ true
 or_left true b one = refl
 or_left false b one = cc
 
-or_right : (a b : Bool) → b ≡ true → (a || b) ≡ true
+pub or_right : (a b : Bool) → b ≡ true → (a || b) ≡ true
 or_right true b other = refl
 or_right false b other = other
 
@@ -189,3 +189,22 @@ one_way_below file n i none inside loaded =
 pub runs_below : (file : List ℕ) (n : ℕ) → any_below (runs_entry file) n ≡ true → list_any (λ s. runs_at s (entry file)) (segments_below file n) ≡ true
 unfolding runs_entry
 runs_below file n some = some_below (λ s. runs_at s (entry file)) file n some
+
+-- ---- where no two segments meet
+
+pub any_none : (test : ℕ → Bool) (n : ℕ) → ((i : ℕ) → i < n → test i ≡ false) → any_below test n ≡ false
+unfolding any_below
+any_none test zero none = refl
+any_none test (suc n) none =
+    rw (any_none test n (λ i low. none i (omega arith))) (none n (omega arith))
+
+pairs_pass : (file : List ℕ) (j n : ℕ) → ((i : ℕ) → i < n → overlap_at file i j ≡ false) → first_fault (below (pair_checks file j) n) ≡ None
+unfolding below pair_checks first_fault
+pairs_pass file j zero none = refl
+pairs_pass file j (suc n) none =
+    first_fault_passes (below (pair_checks file j) n) (pair_checks file j n) (pairs_pass file j n (λ i low. none i (omega arith)))
+    ∙ rw (none n (omega arith)) refl
+
+pub overlaps_pass : (file : List ℕ) (j : ℕ) → ((i : ℕ) → i < j → overlap_at file i j ≡ false) → first_fault (overlap_checks file j) ≡ None
+unfolding overlap_checks
+overlaps_pass file j none = pairs_pass file j j none

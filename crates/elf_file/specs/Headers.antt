@@ -2,13 +2,14 @@
 -- Source: System V ABI, ELF-64, "Program header" (type 1 is loaded). The base of a file of type 3, which is added to
 -- each address, and the bounds of addresses are the project's own.
 use Rattle.std.specs.Prelude.{◌≡◌, ℕ, ◌+◌, ◌-◌, ◌*◌, ◌%◌, ◌<◌, Bool, true, false, ◌&&◌, ◌||◌, ◌==◌, nat_le, if◌then◌else◌, List, [], ◌∷◌, take, drop, length, Option, Some, None}
+use Rattle.guest_pages.specs.Limits.{maps_end, segments_start, shared_object_base}
 use Rattle.elf_file.specs.Fields.{e_type, e_entry, e_phoff, e_phnum, p_type, p_flags, p_offset, p_vaddr, p_filesz, p_memsz}
 use Rattle.elf_file.specs.Below.{below, any_below, first_below}
 use Rattle.elf_file.specs.Segments.{SegmentImage, is_writable, is_executable, runs_at, shares_byte, clashes}
 
 -- what is added to each address of the file
 unfoldable pub base : List ℕ → ℕ
-base file = if e_type file == 3 then 0x2000000000 else 0
+base file = if e_type file == 3 then shared_object_base else 0
 
 -- the header is of a segment that is loaded
 unfoldable pub is_loaded : List ℕ → ℕ → Bool
@@ -23,12 +24,13 @@ segment file i = record {
   rights = p_flags file i % 8;
 }
 
--- it has no more bytes in the file than in memory, the file has them, and it lies within the addresses of programs
+-- it has no more bytes in the file than in memory, the file has them (wherever none would be), and it lies within the
+-- addresses of programs
 unfoldable pub is_placed : List ℕ → ℕ → Bool
 is_placed file i =
     nat_le (p_filesz file i) (p_memsz file i)
-    && (nat_le (p_offset file i + p_filesz file i) (length file)
-    && (nat_le 0x1000 (base file + p_vaddr file i) && nat_le (base file + p_vaddr file i + p_memsz file i) 0x3F00000000))
+    && ((p_filesz file i == 0 || nat_le (p_offset file i + p_filesz file i) (length file))
+    && (nat_le segments_start (base file + p_vaddr file i) && nat_le (base file + p_vaddr file i + p_memsz file i) maps_end))
 
 -- ---- two segments that are loaded
 

@@ -6,3 +6,4 @@ pub mod Headers
 pub mod Checks
 pub mod Reading
 pub mod Kept
+pub mod Spans

@@ -2,6 +2,7 @@
 -- Source: System V ABI, ELF-64, "Program header" (flags: 1 execute, 2 write, 4 read). Pages have 4,096 bytes.
 use Rattle.std.specs.Prelude.{ℕ, ◌+◌, ◌-◌, ◌/◌, min, max, Bool, true, not, ◌&&◌, ◌||◌, ◌==◌, nat_le, nat_lt, if◌then◌else◌, bit_and, List, [], ◌∷◌}
 use Rattle.std.specs.List.{list_all}
+use Rattle.guest_pages.specs.Limits.{page_size}
 
 -- a segment: its address, the bytes from the file, how many it has in memory, and its rights
 pub record SegmentImage : Type 0 where
@@ -38,10 +39,10 @@ shares_byte s t = nat_lt (max s.at t.at) (min (end_of s) (end_of t))
 
 -- the numbers of the pages of its first and its last byte, where it has one
 abbrev pub first_page : SegmentImage → ℕ
-first_page segment = segment.at / 4096
+first_page segment = segment.at / page_size
 
 abbrev pub last_page : SegmentImage → ℕ
-last_page segment = (end_of segment - 1) / 4096
+last_page segment = (end_of segment - 1) / page_size
 
 abbrev pub has_byte : SegmentImage → Bool
 has_byte segment = nat_lt 0 segment.size

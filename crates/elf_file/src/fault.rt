@@ -17,8 +17,8 @@ pub enum ElfFault {
     HeaderSize(u16),
     /// It asks for an interpreter.
     Interpreter,
-    /// The segment of this program header has more bytes in the file than in memory, or bytes past the file's end, or
-    /// is not within the addresses of programs.
+    /// The segment of this program header has more bytes in the file than in memory, or bytes past the file's end (where it
+    /// has any), or is not within the addresses of programs.
     BadSegment(u16),
     /// The segment of this program header makes a page that is writable and executable, alone or with an earlier one.
     WritableCode(u16),

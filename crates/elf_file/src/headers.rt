@@ -5,18 +5,14 @@ ghost use Rattle.elf_file.specs.Fields.{header_place, e_phnum};
 ghost use Rattle.elf_file.specs.Checks.{has_table};
 ghost use Rattle.elf_file.specs.Headers.{base, is_loaded, is_placed, segment};
 ghost use Rattle.elf_file.specs.Kept.{IsHeader, IsArea};
+ghost use Rattle.guest_pages.specs.Limits.{maps_end, segments_start, shared_object_base};
 
 use crate::fields::{kind, table_offset, u32_in, u64_in};
+use guest_pages::{MAPS_END, SEGMENTS_START, SHARED_OBJECT_BASE};
 
 const SHARED_OBJECT: u16 = 3;
 
-const BASE: u64 = 0x20_0000_0000;
-
 const LOADED: u32 = 1;
-
-const LOWEST: u64 = 0x1000;
-
-const HIGHEST: u64 = 0x3F_0000_0000;
 
 /// A program header. The address is without the base.
 #[derive(Clone, Copy)]
@@ -68,10 +64,10 @@ fn header_place(bytes: &[u8], index: u16) -> usize
 #[tactic(auto, unfolding(crate::specs::Headers::base))]
 pub fn base_of(bytes: &[u8]) -> u64
     ensures value { result ≡ base bytes.now }
-    ensures small { result ≤ 0x2000000000 }
+    ensures small { result ≤ shared_object_base }
 {
     if kind(bytes) == SHARED_OBJECT {
-        BASE
+        SHARED_OBJECT_BASE
     } else {
         0
     }
@@ -86,8 +82,8 @@ pub fn is_loaded(bytes: &[u8], index: u16) -> bool
     program_header(bytes, index).kind == LOADED
 }
 
-/// Whether the segment has no more bytes in the file than in memory, the file has them, and it lies within the
-/// addresses of programs.
+/// Whether the segment has no more bytes in the file than in memory, the file has them (wherever none would be), and it
+/// lies within the addresses of programs.
 #[tactic(auto, unfolding(crate::specs::Headers::is_placed))]
 pub fn is_placed(bytes: &[u8], index: u16) -> bool
     requires table { has_table bytes.now ≡ true }
@@ -99,7 +95,9 @@ pub fn is_placed(bytes: &[u8], index: u16) -> bool
         return false;
     }
     let length = bytes.len() as u64;
-    if length < header.file_size || length - header.file_size < header.offset {
+    if header.file_size != 0
+        && (length < header.file_size || length - header.file_size < header.offset)
+    {
         return false;
     }
     is_within(base_of(bytes), header.address, header.memory_size)
@@ -107,7 +105,7 @@ pub fn is_placed(bytes: &[u8], index: u16) -> bool
 
 /// Whether the range lies within the addresses of programs. The base is added to its address.
 fn is_within(base: u64, address: u64, size: u64) -> bool
-    ensures { result ≡ (nat_le 0x1000 (base + address) && nat_le (base + address + size) 0x3F00000000) }
+    ensures { result ≡ (nat_le segments_start (base + address) && nat_le (base + address + size) maps_end) }
 {
     let Some(start) = base.checked_add(address) else {
         return false;
@@ -115,7 +113,7 @@ fn is_within(base: u64, address: u64, size: u64) -> bool
     let Some(end) = start.checked_add(size) else {
         return false;
     };
-    LOWEST <= start && end <= HIGHEST
+    SEGMENTS_START <= start && end <= MAPS_END
 }
 
 /// The range and the rights of a segment, if it is loaded. It is known to be placed.
@@ -127,7 +125,7 @@ pub fn area_at(bytes: &[u8], index: u16) -> Option<Area>
     ensures area { MatchOption result (is_loaded bytes.now index ≡ false) (λ area. IsArea (segment bytes.now index) area) }
     ensures loaded { OnSome result (is_loaded bytes.now index ≡ true) }
     ensures low { IfSome result (λ area. 0x1000 ≤ area.start) }
-    ensures high { IfSome result (λ area. area.start + area.size ≤ 0x3F00000000) }
+    ensures high { IfSome result (λ area. area.start + area.size ≤ maps_end) }
 {
     let header = program_header(bytes, index);
     if header.kind != LOADED {

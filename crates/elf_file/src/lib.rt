@@ -32,6 +32,7 @@ mod pair_checks;
 mod reader;
 mod rights;
 mod segment_checks;
+mod spans;
 mod table;
 
 pub use fault::ElfFault;

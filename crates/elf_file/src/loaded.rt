@@ -1,5 +1,6 @@
 ghost use Rattle.std.specs.Prelude.{◌≤◌, ◌<◌, ◌+◌, ◌≡◌, ◌&&◌, false, length};
 ghost use Rattle.elf_file.specs.Segments.{is_writable, is_executable};
+ghost use Rattle.guest_pages.specs.Limits.{maps_end, segments_start};
 
 use le_fields::Bytes;
 
@@ -15,8 +16,8 @@ pub struct Segment {
     /// The sum of 1 for execution, 2 for writing and 4 for reading. Never both of the first two.
     pub rights: u32,
     pub ghost holds_file: { length file_bytes ≤ size },
-    pub ghost low: { 0x1000 ≤ at },
-    pub ghost high: { at + size ≤ 0x3F00000000 },
+    pub ghost low: { segments_start ≤ at },
+    pub ghost high: { at + size ≤ maps_end },
     pub ghost few_rights: { rights < 8 },
     pub ghost one_way: { (is_writable rights && is_executable rights) ≡ false },
 }

@@ -1,6 +1,6 @@
 //! The segments that are loaded, with copies of their bytes.
 
-ghost use Rattle.std.specs.Prelude.{◌≡◌, ◌<◌, ◌&&◌, ◌++◌, ◌≤◌, true, false, map, IfOk, OnOk, max};
+ghost use Rattle.std.specs.Prelude.{◌≡◌, ◌<◌, ◌+◌, ◌&&◌, ◌++◌, ◌≤◌, true, false, map, IfOk, OnOk, max, length, take, drop};
 ghost use Rattle.elf_file.specs.Fields.{e_phnum};
 ghost use Rattle.elf_file.specs.Checks.{has_table};
 ghost use Rattle.elf_file.specs.Segments.{top_of, byte_end};
@@ -63,15 +63,25 @@ fn load_segment(alloc: Global, bytes: &[u8], index: u16) -> Result<Segment, Allo
     ensures { IfOk result (λ loaded. segment_image loaded ≡ segment bytes.now index) }
 {
     let header = program_header(bytes, index);
-    let start = header.offset as usize;
-    let end = start + header.file_size as usize;
-    let file_bytes = Vec::from_slice(alloc, &bytes[start..end])?;
+    let file_bytes = Vec::from_slice(alloc, part_of(bytes, header.offset, header.file_size))?;
     Ok(Segment {
         at: base_of(bytes) + header.address,
         file_bytes: Bytes::from_vec(file_bytes),
         size: header.memory_size,
         rights: header.flags % 8,
     })
+}
+
+/// So many bytes from an offset on. The offset may be any where they are none.
+fn part_of(bytes: &[u8], offset: u64, size: u64) -> &[u8]
+    requires { 0 < size → offset + size ≤ length bytes.now }
+    ensures { result.now ≡ take size (drop offset bytes.now) }
+{
+    if size == 0 {
+        return &[];
+    }
+    let start = offset as usize;
+    &bytes[start..start + size as usize]
 }
 
 /// The greatest end of a segment that has a byte, 0 where there is none.

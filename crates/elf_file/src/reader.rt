@@ -23,15 +23,15 @@ use std::alloc::Global;
 /// program header in its order, of each two segments (the least later one, then the least earlier one), of the entry.
 /// `Memory` comes after all of these.
 ///
-/// Costs by the bytes of the segments, which are copied, and by the square of the number of program headers, since each
-/// two are compared. Of a file that is refused nothing is copied.
+/// Costs by the bytes of the segments, which are copied, and by a sort of the program headers, or by the square of their
+/// number where memory for it is wanting. Of a file that is refused no bytes are copied.
 ///
 /// References: ELF-64, "ELF header" and "Program header"; RISC-V ELF psABI, "File Header".
 #[tactic(auto, unfolding(crate::specs::Reading::reading))]
 pub fn read(alloc: Global, bytes: &[u8]) -> Result<Elf, ElfFault>
     ensures { Gives result (reading bytes.now) }
 {
-    let entry = match check(bytes) {
+    let entry = match check(alloc, bytes) {
         Ok(entry) => entry,
         Err(fault) => return Err(fault),
     };
@@ -50,7 +50,7 @@ pub fn read(alloc: Global, bytes: &[u8]) -> Result<Elf, ElfFault>
 
 /// Makes all checks, and gives the entry.
 #[tactic(auto, using(crate::proofs::Faults::first_fault_passes, crate::proofs::Faults::first_fault_fails))]
-fn check(bytes: &[u8]) -> Result<u64, ElfFault>
+fn check(alloc: Global, bytes: &[u8]) -> Result<u64, ElfFault>
     ensures first { MatchResult result
         (λ _. first_fault (checks bytes.now) ≡ None)
         (λ fault. first_fault (checks bytes.now) ≡ Some fault) }
@@ -71,11 +71,11 @@ fn check(bytes: &[u8]) -> Result<u64, ElfFault>
         Ok(()) => {}
         Err(fault) => return Err(fault),
     }
-    match check_segments(bytes) {
+    match check_segments(alloc, bytes) {
         Ok(()) => {}
         Err(fault) => return Err(fault),
     }
-    match check_overlaps(bytes) {
+    match check_overlaps(alloc, bytes) {
         Ok(()) => {}
         Err(fault) => return Err(fault),
     }

@@ -328,13 +328,15 @@ fn a_file_of_type_3_lies_above_its_base(rt: HostRuntime) -> Result<(), Fail> {
 fn where_the_bytes_of_a_segment_stand_in_the_file(rt: HostRuntime) -> Result<(), Fail> {
     // the file has 64 + 4 * 56 + 8 bytes
     let bad = Some(ElfFault::BadSegment(1));
-    let table: [(u64, u64, u64, Option<ElfFault>); 8] = [
+    let table: [(u64, u64, u64, Option<ElfFault>); 9] = [
         (288, 8, 8, None),
         (288, 8, 7, bad),
         (289, 8, 8, bad),
         (296, 0, 8, None),
-        (297, 0, 8, bad),
-        (u64::MAX, 0, 8, bad),
+        // without bytes in the file the offset may be any
+        (297, 0, 8, None),
+        (u64::MAX, 0, 8, None),
+        (297, 1, 8, bad),
         (u64::MAX, 2, 8, bad),
         (8, u64::MAX, u64::MAX, bad),
     ];
@@ -752,6 +754,44 @@ fn the_rights_are_three_bits(rt: HostRuntime) -> Result<(), Fail> {
     let elf = read(rt.alloc(), &bytes)?;
     for (segment, rights) in elf.segments.iter().zip(&[5u32, 6]) {
         assert_eq!(rt; segment.rights, *rights);
+    }
+    Ok(())
+}
+
+/// A file of as many program headers as there can be: one segment of code, and variables in a page each, the last in this.
+fn greatest_file(alloc: Global, last: u64) -> Result<Vec<u8>, AllocError> {
+    let head = Head {
+        kind: 2,
+        entry: 0x10000,
+        table: 64,
+        count: 65_535,
+    };
+    let mut bytes = file(alloc, head, &[code(0x10000, 0x100)], &[])?;
+    for index in 1..65_534u64 {
+        add_part(&mut bytes, variables(0x10000 + 0x1000 * index, 0x100))?;
+    }
+    add_part(&mut bytes, variables(last, 0x100))?;
+    Ok(bytes)
+}
+
+#[test]
+fn as_many_program_headers_as_there_can_be(rt: HostRuntime) -> Result<(), Fail> {
+    let table: [(u64, Option<ElfFault>); 5] = [
+        (0x3000, None),
+        (0x10200, Some(ElfFault::WritableCode(65_534))),
+        (0x11000, Some(ElfFault::Overlap(1, 65_534))),
+        (0x12100, None),
+        (0x1000_D0FF, Some(ElfFault::Overlap(65_533, 65_534))),
+    ];
+    for (last, fault) in table {
+        let bytes = greatest_file(rt.alloc(), last)?;
+        match read(rt.alloc(), &bytes) {
+            Ok(elf) => {
+                assert_eq!(rt; fault, None, "{last}");
+                assert_eq!(rt; elf.segments.len(), 65_535);
+            }
+            Err(found) => assert_eq!(rt; Some(found), fault, "{last}"),
+        }
     }
     Ok(())
 }

@@ -6,8 +6,9 @@ use Rattle.cli_words.specs.Command.{Asked, IsAsked, asked_by}
 use Rattle.cli_words.specs.FirstWrong.{IsAccepted}
 use Rattle.cli_words.proofs.FrontFacts.{same_command}
 use Rattle.cli_words.proofs.WrongFacts.{not_accepted}
-use Rattle.guest_core.specs.Start.{wanted_pages, most_pages, FitsIn}
-use Rattle.start_stack.specs.Placing.{stack_size, most_bytes}
+use Rattle.guest_core.specs.Start.{wanted_pages, FitsIn}
+use Rattle.start_stack.specs.Placing.{stack_size}
+use Rattle.guest_pages.specs.Limits.{most_stack_bytes, most_pages}
 use Rattle.emu_top.specs.declared.cause.Cause.{Cause}
 use Rattle.emu_top.specs.declared.cause.Cause.TheVariants as causes
 use Rattle.emu_top.specs.declared.cause.Part.TheVariants as parts
@@ -60,8 +61,8 @@ only_memory held writes told note_writes entries reads_before reads_after words 
     let why = faults.0.0 in
     let prepared = why.2 in
     let fit = fits why.0 prepared.bytes why.1 (starts entries words why.0 prepared.bytes names prepared.asks prepared.found.reads) prepared.elf_is in
-    let few : stack_size (args_of why.0) why.0.env ≤ most_bytes = fit.stack in
-    let more : most_bytes < stack_size (args_of why.0) why.0.env = why.4 in
+    let few : stack_size (args_of why.0) why.0.env ≤ most_stack_bytes = fit.stack in
+    let more : most_stack_bytes < stack_size (args_of why.0) why.0.env = why.4 in
     absurd (omega arith)
 only_memory held writes told note_writes entries reads_before reads_after words before notes_before notes_after (causes.PagesFull wanted) journal after names none faults =
     let why = faults.0.0 in

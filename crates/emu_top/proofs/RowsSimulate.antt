@@ -6,14 +6,17 @@ use Rattle.guest_core.specs.declared.events.Event.{Event}
 use Rattle.guest_core.specs.declared.events.Event.TheVariants.{Step}
 use Rattle.guest_core.specs.declared.places.Place.{Place}
 use Rattle.guest_core.specs.declared.places.Place.TheVariants.{Loop, Start, Window, Done}
-use Rattle.guest_core.specs.declared.queue.Instance.{Instance}
-use Rattle.isa_exec.specs.declared.registers.Regs.{Regs}
-use Rattle.guest_core.specs.Call as call
+use Rattle.host_calls.specs.declared.queue.Instance.{Instance}
+use Rattle.isa_exec.specs.Registers.{Registers}
+use Rattle.guest_core.specs.Call.{called}
+use Rattle.guest_core.specs.declared.calls.CallOutcome.{CallOutcome}
+use Rattle.guest_core.specs.declared.calls.CallOutcome.TheVariants.{Answers, Ends}
 use Rattle.guest_core.specs.Event.{event_after, run}
-use Rattle.guest_core.specs.Instruction as instruction
+use Rattle.isa_step.specs.Instruction.{Calls, Faults, InstructionOutcome, Runs, instruction}
 use Rattle.guest_core.specs.Kept.{Keeps, KeepsThread}
-use Rattle.guest_core.specs.Machine.{Shared, Machine, Context, alone}
-use Rattle.guest_core.specs.Pending.{first_of, is_empty}
+use Rattle.guest_core.specs.Machine.{Machine, Context, alone}
+use Rattle.host_calls.specs.Shared.{Shared}
+use Rattle.host_calls.specs.Queue.{first_of, is_empty}
 use Rattle.guest_core.specs.Rows.{Row, Note, Take, ClearFlag, Execute, Check, Enter, Return, due_now, instruction_of, row_of, done, noted_at, noted, taken, flag_cleared, after, executed, checked, after_call, entered, returned, stepped, ticked}
 use Rattle.guest_core.specs.Start.{Program, started}
 use Rattle.guest_core.proofs.AheadFacts.{event_keeps}
@@ -61,7 +64,7 @@ abbrev Simulates : Row → Context → Type 0
 Simulates row context = acts (row_labels row context) (view_of context) ≡ Some (view_of (done row context))
 
 -- a thread at a place, of a process that lives
-abbrev at : Shared → ℕ → Regs → Place → Bool → List ℕ → Context
+abbrev at : Shared → ℕ → Registers → Place → Bool → List ℕ → Context
 at shared id regs place flag noted = record {
   shared = shared;
   thread = record { id = id; regs = regs; place = place; flag = flag; noted = noted };
@@ -73,7 +76,7 @@ written_out context place stands lives =
     ap (λ (p : Place). record { shared = context.shared; thread = record context.thread { place = p }; end = context.end }) stands
     ∙ ap (λ (e : Option End). record { shared = context.shared; thread = record context.thread { place = place }; end = e }) lives
 
-noted_shows : (place : Place) (regs : Regs) → shown_regs place regs ≡ shown_regs (noted_at place) regs
+noted_shows : (place : Place) (regs : Registers) → shown_regs place regs ≡ shown_regs (noted_at place) regs
 noted_shows Loop regs = refl
 noted_shows Start regs = refl
 noted_shows Window regs = refl
@@ -82,7 +85,7 @@ noted_shows (Done answer) regs = refl
 note_simulates : (instance : Instance) (context : Context) → Simulates (Note instance) context
 unfolding noted
 note_simulates instance context =
-    ap (λ (regs : Regs). Some (record { shared = context.shared; task = record { id = context.thread.id; regs = regs }; end = context.end })) (noted_shows context.thread.place context.thread.regs)
+    ap (λ (regs : Registers). Some (record { shared = context.shared; task = record { id = context.thread.id; regs = regs }; end = context.end })) (noted_shows context.thread.place context.thread.regs)
 
 take_simulates : (instance : Instance) (context : Context) → first_of (due_now context) ≡ Some instance → Simulates (Take instance) context
 unfolding taken process.takes
@@ -92,33 +95,33 @@ clear_simulates : (context : Context) → Simulates ClearFlag context
 unfolding flag_cleared
 clear_simulates context = refl
 
-execute_by : (outcome : instruction.Outcome) (shared : Shared) (id : ℕ) (regs : Regs) (flag : Bool) (noted : List ℕ) → instruction.instruction id regs shared.memory shared.held ≡ outcome → shared.pending ≡ [] → acts (instruction_labels id outcome) (view_of (at shared id regs Loop flag noted)) ≡ Some (view_of (after outcome (at shared id regs Loop flag noted)))
+execute_by : (outcome : InstructionOutcome) (shared : Shared) (id : ℕ) (regs : Registers) (flag : Bool) (noted : List ℕ) → instruction id regs shared.memory shared.held ≡ outcome → shared.queue.pending ≡ [] → acts (instruction_labels id outcome) (view_of (at shared id regs Loop flag noted)) ≡ Some (view_of (after outcome (at shared id regs Loop flag noted)))
 unfolding process.makes_instruction
-execute_by (instruction.Outcome.Runs new memory held) shared id regs flag noted is none = rw (none, is) refl
-execute_by instruction.Outcome.Calls shared id regs flag noted is none = refl
-execute_by (instruction.Outcome.Faults fault) shared id regs flag noted is none = rw (none, is) refl
+execute_by (Runs new memory held) shared id regs flag noted is none = rw (none, is) refl
+execute_by Calls shared id regs flag noted is none = refl
+execute_by (Faults fault) shared id regs flag noted is none = rw (none, is) refl
 
-execute_at : (shared : Shared) (id : ℕ) (regs : Regs) (flag : Bool) (noted : List ℕ) → shared.pending ≡ [] → Simulates Execute (at shared id regs Loop flag noted)
+execute_at : (shared : Shared) (id : ℕ) (regs : Registers) (flag : Bool) (noted : List ℕ) → shared.queue.pending ≡ [] → Simulates Execute (at shared id regs Loop flag noted)
 unfolding executed
-execute_at shared id regs flag noted none = execute_by (instruction.instruction id regs shared.memory shared.held) shared id regs flag noted refl none
+execute_at shared id regs flag noted none = execute_by (instruction id regs shared.memory shared.held) shared id regs flag noted refl none
 
-check_at : (shared : Shared) (id : ℕ) (regs : Regs) (flag : Bool) (noted : List ℕ) → Simulates Check (at shared id regs Start flag noted)
+check_at : (shared : Shared) (id : ℕ) (regs : Registers) (flag : Bool) (noted : List ℕ) → Simulates Check (at shared id regs Start flag noted)
 unfolding checked
 check_at shared id regs true noted = refl
 check_at shared id regs false noted = refl
 
-call_by : (outcome : call.Outcome) (new shared : Shared) (id : ℕ) (regs : Regs) (flag : Bool) (noted : List ℕ) → process.call_done (record { shared = new; outcome = outcome }) (view_of (at shared id regs Window flag noted)) ≡ view_of (after_call (record { shared = new; outcome = outcome }) (at shared id regs Window flag noted))
-call_by (call.Outcome.Answers answer) new shared id regs flag noted = refl
-call_by (call.Outcome.Ends end) new shared id regs flag noted = refl
+call_by : (outcome : CallOutcome) (new shared : Shared) (id : ℕ) (regs : Registers) (flag : Bool) (noted : List ℕ) → process.call_done (record { shared = new; outcome = outcome }) (view_of (at shared id regs Window flag noted)) ≡ view_of (after_call (record { shared = new; outcome = outcome }) (at shared id regs Window flag noted))
+call_by (Answers answer) new shared id regs flag noted = refl
+call_by (Ends end) new shared id regs flag noted = refl
 
-enter_at : (shared : Shared) (id : ℕ) (regs : Regs) (flag : Bool) (noted : List ℕ) → instruction.instruction id regs shared.memory shared.held ≡ instruction.Outcome.Calls → shared.pending ≡ [] → Simulates Enter (at shared id regs Window flag noted)
+enter_at : (shared : Shared) (id : ℕ) (regs : Registers) (flag : Bool) (noted : List ℕ) → instruction id regs shared.memory shared.held ≡ Calls → shared.queue.pending ≡ [] → Simulates Enter (at shared id regs Window flag noted)
 unfolding entered process.makes_call
 enter_at shared id regs flag noted is none =
-    let called = call.called id regs shared in
-    let empty : is_empty shared.pending ≡ true = ap (λ (pending : List Instance). is_empty pending) none in
-    rw (empty, is) (ap (λ (context : TaskContext). Some context) (call_by called.outcome called.shared shared id regs flag noted))
+    let made = called id regs shared in
+    let empty : is_empty shared.queue.pending ≡ true = ap (λ (pending : List Instance). is_empty pending) none in
+    rw (empty, is) (ap (λ (context : TaskContext). Some context) (call_by made.outcome made.shared shared id regs flag noted))
 
-return_at : (answer : ℤ) (shared : Shared) (id : ℕ) (regs : Regs) (flag : Bool) (noted : List ℕ) → Simulates (Return answer) (at shared id regs (Done answer) flag noted)
+return_at : (answer : ℤ) (shared : Shared) (id : ℕ) (regs : Registers) (flag : Bool) (noted : List ℕ) → Simulates (Return answer) (at shared id regs (Done answer) flag noted)
 unfolding returned
 return_at answer shared id regs flag noted = refl
 
@@ -131,15 +134,15 @@ row_simulates Execute context keeps lives fits =
 row_simulates Check context keeps lives fits =
     subst (Simulates Check) (sym (written_out context Start fits lives)) (check_at context.shared context.thread.id context.thread.regs context.thread.flag context.thread.noted)
 row_simulates Enter context keeps lives fits =
-    let called = keeps.at_call (λ loop. let window = fits.0 in cc) context.thread.id in
-    subst (Simulates Enter) (sym (written_out context Window fits.0 lives)) (enter_at context.shared context.thread.id context.thread.regs context.thread.flag context.thread.noted called fits.1)
+    let asks = keeps.before_call lives (rw fits.0 tt) context.thread.id in
+    subst (Simulates Enter) (sym (written_out context Window fits.0 lives)) (enter_at context.shared context.thread.id context.thread.regs context.thread.flag context.thread.noted asks fits.1)
 row_simulates (Return answer) context keeps lives fits =
     subst (Simulates (Return answer)) (sym (written_out context (Done answer) fits lives)) (return_at answer context.shared context.thread.id context.thread.regs context.thread.flag context.thread.noted)
 
-instruction_are_of : (id : ℕ) (outcome : instruction.Outcome) → AreOf id (instruction_labels id outcome)
-instruction_are_of id (instruction.Outcome.Runs regs memory held) = (refl, tt)
-instruction_are_of id instruction.Outcome.Calls = tt
-instruction_are_of id (instruction.Outcome.Faults fault) = (refl, tt)
+instruction_are_of : (id : ℕ) (outcome : InstructionOutcome) → AreOf id (instruction_labels id outcome)
+instruction_are_of id (Runs regs memory held) = (refl, tt)
+instruction_are_of id Calls = tt
+instruction_are_of id (Faults fault) = (refl, tt)
 
 -- they are that thread's
 row_are_of : (row : Row) (context : Context) → AreOf context.thread.id (row_labels row context)

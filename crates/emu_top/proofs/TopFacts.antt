@@ -29,7 +29,7 @@ use Rattle.emu_top.proofs.RowsSimulate.{start_simulates}
 runs_from : {D : Type 0} (budget : ℕ) (first last : Run D) → first.journal.budget ≡ budget → Ran first last → RunsFrom first.core budget last.journal last.core
 runs_from budget first last is ran = record { enabled = ran.events; within = ran.within; budget_is = ran.budget ∙ is }
 
-core_stops : {D : Type 0} (held : D → Option (List ℕ)) (writes : D → ℕ) (halt : Halt) (budget : ℕ) (first last : Run D) → first.journal.budget ≡ budget → length (map held first.devices.items) ≡ length first.core.shared.outputs → map held first.devices.items ≡ sent (map held first.devices.items) first.core.shared.outputs → length last.devices.items ≡ length first.devices.items → Stopped held writes halt first last → CoreStops held writes first.core budget first.devices.items halt last.journal last.devices.items
+core_stops : {D : Type 0} (held : D → Option (List ℕ)) (writes : D → ℕ) (halt : Halt) (budget : ℕ) (first last : Run D) → first.journal.budget ≡ budget → length (map held first.devices.items) ≡ length first.core.shared.files.outputs → map held first.devices.items ≡ sent (map held first.devices.items) first.core.shared.files.outputs → length last.devices.items ≡ length first.devices.items → Stopped held writes halt first last → CoreStops held writes first.core budget first.devices.items halt last.journal last.devices.items
 core_stops held writes (halts.Device device) budget first last is size quiet same stopped = (
   last.core,
   runs_from budget first last is stopped.0,
@@ -41,13 +41,13 @@ core_stops held writes (halts.Device device) budget first last is size quiet sam
 core_stops held writes halts.Memory budget first last is size quiet same stopped =
     (last.core, runs_from budget first last is stopped.0, stopped.1 (map held first.devices.items) size quiet, stopped.2)
 
-pub answer_stops : {D : Type 0} (held : D → Option (List ℕ)) (writes : D → ℕ) (ended : Result End Halt) (budget : ℕ) (first last : Run D) (answer : Result (Finished D) (top.Stopped D)) → first.journal.budget ≡ budget → length (map held first.devices.items) ≡ length first.core.shared.outputs → map held first.devices.items ≡ sent (map held first.devices.items) first.core.shared.outputs → length last.devices.items ≡ length first.devices.items → IfErr ended (λ halt. Stopped held writes halt first last) → IfErr answer (λ f. (ended ≡ Err f.halt) × (f.journal ≡ last.journal) × (f.devices ≡ last.devices)) → IfErr answer (λ f. CoreStops held writes first.core budget first.devices.items f.halt f.journal f.devices.items)
+pub answer_stops : {D : Type 0} (held : D → Option (List ℕ)) (writes : D → ℕ) (ended : Result End Halt) (budget : ℕ) (first last : Run D) (answer : Result (Finished D) (top.Stopped D)) → first.journal.budget ≡ budget → length (map held first.devices.items) ≡ length first.core.shared.files.outputs → map held first.devices.items ≡ sent (map held first.devices.items) first.core.shared.files.outputs → length last.devices.items ≡ length first.devices.items → IfErr ended (λ halt. Stopped held writes halt first last) → IfErr answer (λ f. (ended ≡ Err f.halt) × (f.journal ≡ last.journal) × (f.devices ≡ last.devices)) → IfErr answer (λ f. CoreStops held writes first.core budget first.devices.items f.halt f.journal f.devices.items)
 answer_stops held writes ended budget first last (Ok f) is size quiet same stopped tells = tells
 answer_stops held writes ended budget first last (Err f) is size quiet same stopped tells =
     let halted : Stopped held writes f.halt first last = subst (λ (r : Result End Halt). IfErr r (λ halt. Stopped held writes halt first last)) tells.0 stopped in
     rw (tells.1, tells.2) (core_stops held writes f.halt budget first last is size quiet same halted)
 
-core_finishes : {D : Type 0} (held : D → Option (List ℕ)) (end : End) (status budget : ℕ) (first last : Run D) → first.journal.budget ≡ budget → length (map held first.devices.items) ≡ length first.core.shared.outputs → map held first.devices.items ≡ sent (map held first.devices.items) first.core.shared.outputs → Ended held end first last → status ≡ status_of end → CoreFinishes held first.core budget first.devices.items end status last.journal last.devices.items
+core_finishes : {D : Type 0} (held : D → Option (List ℕ)) (end : End) (status budget : ℕ) (first last : Run D) → first.journal.budget ≡ budget → length (map held first.devices.items) ≡ length first.core.shared.files.outputs → map held first.devices.items ≡ sent (map held first.devices.items) first.core.shared.files.outputs → Ended held end first last → status ≡ status_of end → CoreFinishes held first.core budget first.devices.items end status last.journal last.devices.items
 core_finishes held end status budget first last is size quiet ended status_is = record {
   last = last.core;
   runs = runs_from budget first last is ended.ran;
@@ -56,7 +56,7 @@ core_finishes held end status budget first last is size quiet ended status_is = 
   all_sent = ended.sent (map held first.devices.items) size quiet;
 }
 
-pub answer_finishes : {D : Type 0} (held : D → Option (List ℕ)) (ended : Result End Halt) (budget : ℕ) (first last : Run D) (answer : Result (Finished D) (top.Stopped D)) → first.journal.budget ≡ budget → length (map held first.devices.items) ≡ length first.core.shared.outputs → map held first.devices.items ≡ sent (map held first.devices.items) first.core.shared.outputs → IfOk ended (λ end. Ended held end first last) → IfOk answer (λ f. (ended ≡ Ok f.end) × (f.status ≡ status_of f.end) × (f.journal ≡ last.journal) × (f.devices ≡ last.devices)) → IfOk answer (λ f. CoreFinishes held first.core budget first.devices.items f.end f.status f.journal f.devices.items)
+pub answer_finishes : {D : Type 0} (held : D → Option (List ℕ)) (ended : Result End Halt) (budget : ℕ) (first last : Run D) (answer : Result (Finished D) (top.Stopped D)) → first.journal.budget ≡ budget → length (map held first.devices.items) ≡ length first.core.shared.files.outputs → map held first.devices.items ≡ sent (map held first.devices.items) first.core.shared.files.outputs → IfOk ended (λ end. Ended held end first last) → IfOk answer (λ f. (ended ≡ Ok f.end) × (f.status ≡ status_of f.end) × (f.journal ≡ last.journal) × (f.devices ≡ last.devices)) → IfOk answer (λ f. CoreFinishes held first.core budget first.devices.items f.end f.status f.journal f.devices.items)
 answer_finishes held ended budget first last (Err f) is size quiet done tells = tells
 answer_finishes held ended budget first last (Ok f) is size quiet done tells =
     let whole : Ended held f.end first last = subst (λ (r : Result End Halt). IfOk r (λ end. Ended held end first last)) tells.0 done in
@@ -64,7 +64,7 @@ answer_finishes held ended budget first last (Ok f) is size quiet done tells =
 
 -- ---- the start
 
-outputs_at_start : (program : Program) (devices : ℕ) → (started program devices).shared.outputs ≡ replicate devices []
+outputs_at_start : (program : Program) (devices : ℕ) → (started program devices).shared.files.outputs ≡ replicate devices []
 unfolding started
 outputs_at_start program devices = refl
 
@@ -75,16 +75,16 @@ nothing_sent (Some held ∷ helds) =
     ap (λ rest. Some (held ++ []) ∷ rest) (nothing_sent helds) ∙ ap (λ bytes. Some bytes ∷ helds) (append-nil held)
 
 -- there is an output for each device
-pub start_size : {D : Type 0} (devices : List D) (program : Program) (count : ℕ) (core : Machine) → core ≡ started program count → count ≡ length devices → length devices ≡ length core.shared.outputs
+pub start_size : {D : Type 0} (devices : List D) (program : Program) (count : ℕ) (core : Machine) → core ≡ started program count → count ≡ length devices → length devices ≡ length core.shared.files.outputs
 start_size devices program count core is same =
-    sym same ∙ sym (length-replicate count []) ∙ ap (λ (outputs : List (List ℕ)). length outputs) (sym (outputs_at_start program count)) ∙ ap (λ (m : Machine). length m.shared.outputs) (sym is)
+    sym same ∙ sym (length-replicate count []) ∙ ap (λ (outputs : List (List ℕ)). length outputs) (sym (outputs_at_start program count)) ∙ ap (λ (m : Machine). length m.shared.files.outputs) (sym is)
 
 -- and nothing was written
-pub start_quiet : {D : Type 0} (held : D → Option (List ℕ)) (devices : List D) (program : Program) (count : ℕ) (core : Machine) → core ≡ started program count → count ≡ length devices → map held devices ≡ sent (map held devices) core.shared.outputs
+pub start_quiet : {D : Type 0} (held : D → Option (List ℕ)) (devices : List D) (program : Program) (count : ℕ) (core : Machine) → core ≡ started program count → count ≡ length devices → map held devices ≡ sent (map held devices) core.shared.files.outputs
 start_quiet held devices program count core is same =
     let size : count ≡ length (map held devices) = same ∙ simp length-map in
-    let outputs : core.shared.outputs ≡ replicate (length (map held devices)) [] =
-    ap (λ (m : Machine). m.shared.outputs) is ∙ outputs_at_start program count ∙ ap (λ (n : ℕ). replicate n []) size in
+    let outputs : core.shared.files.outputs ≡ replicate (length (map held devices)) [] =
+    ap (λ (m : Machine). m.shared.files.outputs) is ∙ outputs_at_start program count ∙ ap (λ (n : ℕ). replicate n []) size in
     sym (nothing_sent (map held devices)) ∙ ap (sent (map held devices)) (sym outputs)
 
 -- ---- the answer
@@ -122,7 +122,7 @@ is_caused held writes tree reads_before reads_after words asked elf core before 
   last = stopped.0;
   process = view stopped.0;
   journeys = journeys tree words asked elf (length before) core journal stopped.0 prepared fit is stopped.1;
-  breaks_off = subst (λ (first : Machine). BreaksOff first journal.events stopped.0.shared.outputs device (map held before) (map held after)) is stopped.2;
+  breaks_off = subst (λ (first : Machine). BreaksOff first journal.events stopped.0.shared.files.outputs device (map held before) (map held after)) is stopped.2;
   is_device = stopped.3;
   rose = stopped.4;
   others = stopped.5;

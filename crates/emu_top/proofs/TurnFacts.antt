@@ -1,10 +1,17 @@
 -- What sending the new bytes of an output does to what was sent.
-use Rattle.std.proofs.Common.{◌≡◌, ℕ, zero, suc, ◌+◌, ◌<◌, ◌≤◌, List, [], ◌∷◌, ◌++◌, Bool, false, Option, Some, None, Result, Ok, Err, OnOk, is_err, ◌-◌, length, take, drop, get_or, set, refl, ap, sym, ◌∙◌, append_assoc, length-append, zero-add, subst, arith}
+use Rattle.std.proofs.Common.{◌≡◌, ℕ, zero, suc, ◌+◌, ◌<◌, ◌≤◌, List, [], ◌∷◌, ◌++◌, Bool, false, Option, Some, None, Result, Ok, Err, OnOk, is_err, ◌-◌, length, take, drop, get_or, set, refl, ap, sym, ◌∙◌, append_assoc, length-append, zero-add, subst, arith, ◌==◌, ◌≢◌, true, append-nil, inl, inr, get_or-set_other}
+use Rattle.std.proofs.lemmas.Bool.{cases_lt}
+use Rattle.std.proofs.lemmas.Bool.Decides.{nat_tests}
 use Rattle.std.proofs.lemmas.Grind.{common_steps}
-use Rattle.guest_core.specs.Call.{with_output}
-use Rattle.guest_core.specs.Growth.{Lengthened}
+use Rattle.std.proofs.lemmas.List.{length-set, set-get_or, set_past}
+use Rattle.host_calls.specs.Shared.{with_output}
+use Rattle.host_calls.specs.Owes.{Grows}
 use Rattle.emu_top.specs.Told.{more}
 use Rattle.emu_top.specs.Sending.{sent, SentUpTo}
+
+-- the output of a device goes on
+abbrev pub GoesOn : ℕ → List (List ℕ) → List (List ℕ) → Type 0
+GoesOn device old new = (bytes : List ℕ) × (new ≡ with_output device bytes old)
 
 more_more : (held : Option (List ℕ)) (first second : List ℕ) → more (more held first) second ≡ more held (first ++ second)
 more_more None first second = refl
@@ -53,7 +60,7 @@ fresh_is old device before bytes within at =
     ∙ drop_front (get_or old device []) bytes
 
 -- where the new bytes were sent, all is sent
-turn_sent : (held_before held_after : List (Option (List ℕ))) (old new : List (List ℕ)) (device before : ℕ) → device < length old → before ≡ length (get_or old device []) → Lengthened (Some device) old new → held_after ≡ set held_before device (more (get_or held_before device None) (drop before (get_or new device []))) → (helds : List (Option (List ℕ))) → length helds ≡ length old → held_before ≡ sent helds old → held_after ≡ sent helds new
+turn_sent : (held_before held_after : List (Option (List ℕ))) (old new : List (List ℕ)) (device before : ℕ) → device < length old → before ≡ length (get_or old device []) → GoesOn device old new → held_after ≡ set held_before device (more (get_or held_before device None) (drop before (get_or new device []))) → (helds : List (Option (List ℕ))) → length helds ≡ length old → held_before ≡ sent helds old → held_after ≡ sent helds new
 turn_sent held_before held_after old new device before within at grown sending helds same all =
     let bytes = grown.0 in
     let fresh : drop before (get_or new device []) ≡ bytes = ap (λ outputs. drop before (get_or outputs device [])) grown.1 ∙ fresh_is old device before bytes within at in
@@ -66,7 +73,7 @@ turn_sent held_before held_after old new device before within at grown sending h
     ∙ ap (sent helds) (sym grown.1)
 
 -- where a beginning of them was sent, all is sent but to this device
-turn_up_to : (held_before held_after : List (Option (List ℕ))) (old new : List (List ℕ)) (device before : ℕ) → device < length old → before ≡ length (get_or old device []) → Lengthened (Some device) old new → ((count : ℕ) × (count ≤ length (drop before (get_or new device []))) × (held_after ≡ set held_before device (more (get_or held_before device None) (take count (drop before (get_or new device [])))))) → (helds : List (Option (List ℕ))) → length helds ≡ length old → held_before ≡ sent helds old → SentUpTo helds old new device held_after
+turn_up_to : (held_before held_after : List (Option (List ℕ))) (old new : List (List ℕ)) (device before : ℕ) → device < length old → before ≡ length (get_or old device []) → GoesOn device old new → ((count : ℕ) × (count ≤ length (drop before (get_or new device []))) × (held_after ≡ set held_before device (more (get_or held_before device None) (take count (drop before (get_or new device [])))))) → (helds : List (Option (List ℕ))) → length helds ≡ length old → held_before ≡ sent helds old → SentUpTo helds old new device held_after
 turn_up_to held_before held_after old new device before within at grown sending helds same all =
     let bytes = grown.0 in
     let count = sending.0 in
@@ -98,29 +105,57 @@ pub ok_fact : {T E : Type 0} (result : Result T E) (test : Bool) (P : Type 0) �
 ok_fact (Ok value) test P is passed ok = ok
 ok_fact (Err error) test P is passed ok = cc
 
--- a device that the event may lengthen, its output before and after, and what was sent of it
-pub record Sending (target : Option ℕ) (old new : List (List ℕ)) (device : ℕ) (output_before output_now : List ℕ) : Type 0 where
+-- ---- which output went on
+
+pub grows_length : {old new : List (List ℕ)} → Grows old new → length new ≡ length old
+grows_length {old} {new} grows = rw grows.grown (length-set old grows.device _)
+
+nothing_longer : (old : List ℕ) (bytes : List ℕ) → length (old ++ bytes) ≤ length old → bytes ≡ []
+nothing_longer old [] short = refl
+nothing_longer old (x ∷ bytes) short = absurd (omega (arith, length-append old (x ∷ bytes), short))
+
+-- where no output is longer, all are as they were
+pub none_longer : (old new : List (List ℕ)) → Grows old new → ((device : ℕ) → device < length old → length (get_or new device []) ≤ length (get_or old device [])) → new ≡ old
+none_longer old new grows short = elim (cases_lt grows.device (length old)) [
+  | inl within ↦
+      let now : get_or new grows.device [] ≡ get_or old grows.device [] ++ grows.more = ap (λ outputs. get_or outputs grows.device []) grows.grown ∙ output_at old grows.device grows.more within in
+      let none : grows.more ≡ [] = nothing_longer (get_or old grows.device []) grows.more (rw now at (short grows.device within)) in
+      grows.grown ∙ ap (λ bytes. with_output grows.device bytes old) none ∙ ap (λ bytes. set old grows.device bytes) (append-nil (get_or old grows.device [])) ∙ set-get_or old grows.device []
+  | inr past ↦ grows.grown ∙ set_past old grows.device _ past
+]
+
+longer_by : (this : Bool) (old new : List (List ℕ)) (device : ℕ) (grows : Grows old new) → (grows.device == device) ≡ this → length (get_or old device []) < length (get_or new device []) → GoesOn device old new
+longer_by true old new device grows is longer =
+    let same : grows.device ≡ device = grind (arith, nat_tests) in
+    (grows.more, grows.grown ∙ ap (λ (n : ℕ). with_output n grows.more old) same)
+longer_by false old new device grows is longer =
+    let apart : device ≢ grows.device = grind (arith, nat_tests) in
+    let still : get_or new device [] ≡ get_or old device [] = ap (λ outputs. get_or outputs device []) grows.grown ∙ get_or-set_other old grows.device device (get_or old grows.device [] ++ grows.more) [] apart in
+    absurd (let none : length (get_or old device []) < length (get_or old device []) = rw still at longer in omega (arith, none))
+
+-- an output that is longer is the one that went on
+pub longer_goes_on : (old new : List (List ℕ)) (device : ℕ) → Grows old new → length (get_or old device []) < length (get_or new device []) → GoesOn device old new
+longer_goes_on old new device grows longer = longer_by (grows.device == device) old new device grows refl longer
+
+-- a device whose output went on, its length before and what it is now
+pub record Sending (old new : List (List ℕ)) (device before : ℕ) (output_now : List ℕ) : Type 0 where
   pub within : device < length old
-  pub target_is : Some device ≡ target
-  pub before : output_before ≡ get_or old device []
+  pub before_is : before ≡ length (get_or old device [])
   pub now : output_now ≡ get_or new device []
-  pub grown : Lengthened target old new
+  pub grown : GoesOn device old new
 
-grown_at : (target : Option ℕ) (device : ℕ) (old new : List (List ℕ)) → Some device ≡ target → Lengthened target old new → Lengthened (Some device) old new
-grown_at target device old new is grown = subst (λ (t : Option ℕ). Lengthened t old new) (sym is) grown
+fresh_of : (before : ℕ) (output_now now : List ℕ) → output_now ≡ now → take (length output_now - before) (drop before output_now) ≡ drop before now
+fresh_of before output_now now is = all_left before output_now ∙ ap (drop before) is
 
-fresh_of : (output_before output_now now : List ℕ) → output_now ≡ now → take (length output_now - length output_before) (drop (length output_before) output_now) ≡ drop (length output_before) now
-fresh_of output_before output_now now is = all_left (length output_before) output_now ∙ ap (drop (length output_before)) is
+pub sent_all : (held_before held_after : List (Option (List ℕ))) (old new : List (List ℕ)) (device before : ℕ) (output_now : List ℕ) → Sending old new device before output_now → held_after ≡ set held_before device (more (get_or held_before device None) (take (length output_now - before) (drop before output_now))) → (helds : List (Option (List ℕ))) → length helds ≡ length old → held_before ≡ sent helds old → held_after ≡ sent helds new
+sent_all held_before held_after old new device before output_now s sending =
+    turn_sent held_before held_after old new device before s.within s.before_is s.grown
+    (sending ∙ ap (λ bytes. set held_before device (more (get_or held_before device None) bytes)) (fresh_of before output_now (get_or new device []) s.now))
 
-pub sent_all : (held_before held_after : List (Option (List ℕ))) (target : Option ℕ) (old new : List (List ℕ)) (device : ℕ) (output_before output_now : List ℕ) → Sending target old new device output_before output_now → held_after ≡ set held_before device (more (get_or held_before device None) (take (length output_now - length output_before) (drop (length output_before) output_now))) → (helds : List (Option (List ℕ))) → length helds ≡ length old → held_before ≡ sent helds old → held_after ≡ sent helds new
-sent_all held_before held_after target old new device output_before output_now s sending =
-    turn_sent held_before held_after old new device (length output_before) s.within (ap length s.before) (grown_at target device old new s.target_is s.grown)
-    (sending ∙ ap (λ bytes. set held_before device (more (get_or held_before device None) bytes)) (fresh_of output_before output_now (get_or new device []) s.now))
-
-pub sent_part : (held_before held_after : List (Option (List ℕ))) (target : Option ℕ) (old new : List (List ℕ)) (device : ℕ) (output_before output_now : List ℕ) → Sending target old new device output_before output_now → ((count : ℕ) × (count ≤ length (take (length output_now - length output_before) (drop (length output_before) output_now))) × (held_after ≡ set held_before device (more (get_or held_before device None) (take count (take (length output_now - length output_before) (drop (length output_before) output_now)))))) → (helds : List (Option (List ℕ))) → length helds ≡ length old → held_before ≡ sent helds old → SentUpTo helds old new device held_after
-sent_part held_before held_after target old new device output_before output_now s sending =
-    let fresh = fresh_of output_before output_now (get_or new device []) s.now in
-    turn_up_to held_before held_after old new device (length output_before) s.within (ap length s.before) (grown_at target device old new s.target_is s.grown) (
+pub sent_part : (held_before held_after : List (Option (List ℕ))) (old new : List (List ℕ)) (device before : ℕ) (output_now : List ℕ) → Sending old new device before output_now → ((count : ℕ) × (count ≤ length (take (length output_now - before) (drop before output_now))) × (held_after ≡ set held_before device (more (get_or held_before device None) (take count (take (length output_now - before) (drop before output_now)))))) → (helds : List (Option (List ℕ))) → length helds ≡ length old → held_before ≡ sent helds old → SentUpTo helds old new device held_after
+sent_part held_before held_after old new device before output_now s sending =
+    let fresh = fresh_of before output_now (get_or new device []) s.now in
+    turn_up_to held_before held_after old new device before s.within s.before_is s.grown (
       sending.0,
       subst (λ (bytes : List ℕ). sending.0 ≤ length bytes) fresh sending.1,
       sending.2 ∙ ap (λ bytes. set held_before device (more (get_or held_before device None) (take sending.0 bytes))) fresh,

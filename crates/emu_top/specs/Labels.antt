@@ -4,17 +4,17 @@ use Rattle.std.specs.Prelude.{ℕ, List, [], ◌∷◌, ◌++◌, Option, Some, 
 use Rattle.guest_core.specs.declared.events.Event.{Event}
 use Rattle.guest_core.specs.declared.events.Event.TheVariants.{Step}
 use Rattle.guest_core.specs.Event.{event_after}
-use Rattle.guest_core.specs.Instruction as instruction
+use Rattle.isa_step.specs.Instruction.{Calls, Faults, InstructionOutcome, Runs}
 use Rattle.guest_core.specs.Machine.{Context, Machine, Thread, context_of, thread_at}
 use Rattle.guest_core.specs.Rows as rows
 use Rattle.linux_model.specs.declared.labels.Label.{Label}
 use Rattle.linux_model.specs.declared.labels.Label.TheVariants.{Instr, Call, Take, Tick}
 
 -- an instruction has a label, but none where an ecall leaves the loop
-abbrev pub instruction_labels : ℕ → instruction.Outcome → List Label
-instruction_labels thread (instruction.Outcome.Runs regs memory held) = Instr thread ∷ []
-instruction_labels thread instruction.Outcome.Calls = []
-instruction_labels thread (instruction.Outcome.Faults fault) = Instr thread ∷ []
+abbrev pub instruction_labels : ℕ → InstructionOutcome → List Label
+instruction_labels thread (Runs regs memory held) = Instr thread ∷ []
+instruction_labels thread Calls = []
+instruction_labels thread (Faults fault) = Instr thread ∷ []
 
 abbrev pub row_labels : rows.Row → Context → List Label
 row_labels (rows.Row.Note instance) context = []

@@ -6,12 +6,13 @@ use Rattle.elf_file.specs.declared.fault.ElfFault.TheVariants as elf_faults
 use Rattle.elf_file.specs.Reading.{Image, reading}
 use Rattle.cli_words.specs.Command.{Asked, IsAsked}
 use Rattle.cli_words.specs.FirstWrong.{IsAccepted, IsFirstWrong}
-use Rattle.start_stack.specs.Placing.{stack_size, told_size, most_bytes}
+use Rattle.start_stack.specs.Placing.{stack_size, told_size}
 use Rattle.guest_core.specs.declared.ends.End.{End}
 use Rattle.guest_core.specs.declared.ends.End.TheVariants.{Exit, Killed, Budget}
 use Rattle.guest_core.specs.Machine.{Machine}
 use Rattle.guest_core.specs.Event.{run}
-use Rattle.guest_core.specs.Start.{Program, program_of, started, wanted_pages, told_pages, most_pages, FitsIn}
+use Rattle.guest_core.specs.Start.{Program, program_of, started, wanted_pages, told_pages, FitsIn}
+use Rattle.guest_pages.specs.Limits.{most_pages, most_stack_bytes}
 use Rattle.guest_core.specs.declared.starting.StartFault.{StartFault}
 use Rattle.guest_core.specs.declared.starting.StartFault.TheVariants as starts
 use Rattle.linux_model.specs.Process.{ProcessState, begun, seen_outputs, seen_end}
@@ -104,18 +105,18 @@ pub record CoreFinishes {D : Type 0} (held : D → Option (List ℕ)) (core : Ma
   pub runs : RunsFrom core budget journal last
   pub end_is : IsEnd last.end (length journal.events) journal.budget end
   pub status_is : status ≡ status_of end
-  pub all_sent : map held after ≡ sent (map held before) last.shared.outputs
+  pub all_sent : map held after ≡ sent (map held before) last.shared.files.outputs
 
 abbrev pub CoreStops : {D : Type 0} → (D → Option (List ℕ)) → (D → ℕ) → Machine → ℕ → List D → Halt → History → List D → Type 0
 CoreStops held writes core budget before (halts.Device device) journal after =
     (last : Machine) × RunsFrom core budget journal last
-    × BreaksOff core journal.events last.shared.outputs device (map held before) (map held after)
+    × BreaksOff core journal.events last.shared.files.outputs device (map held before) (map held after)
     × (device < length before)
     × Rose (slice_index (map writes before) device) (slice_index (map writes after) device)
     × OthersStill (map writes before) (map writes after) device
 CoreStops held writes core budget before halts.Memory journal after =
     (last : Machine) × RunsFrom core budget journal last
-    × (map held after ≡ sent (map held before) last.shared.outputs) × (map writes after ≡ map writes before)
+    × (map held after ≡ sent (map held before) last.shared.files.outputs) × (map writes after ≡ map writes before)
 
 -- nothing was started, and the journal is that of no run: the words may have given no budget
 pub record Untouched {D : Type 0} (before : List D) (journal : History) (after : List D) : Type 0 where
@@ -153,10 +154,10 @@ Unprepared tree reads_before reads_after words (causes.Elf fault) =
     × Found tree asked.program bytes × (reading bytes ≡ Err fault) × (fault ≢ elf_faults.Memory)
 Unprepared tree reads_before reads_after words (causes.StackTooLong size) =
     (asked : Asked) × (elf : Image) × Prepared tree words asked elf
-    × (size ≡ told_size (args_of asked) asked.env) × (most_bytes < stack_size (args_of asked) asked.env)
+    × (size ≡ told_size (args_of asked) asked.env) × (most_stack_bytes < stack_size (args_of asked) asked.env)
 Unprepared tree reads_before reads_after words (causes.PagesFull wanted) =
     (asked : Asked) × (elf : Image) × Prepared tree words asked elf
-    × (wanted ≡ told_pages elf) × (most_pages < wanted_pages elf) × (stack_size (args_of asked) asked.env ≤ most_bytes)
+    × (wanted ≡ told_pages elf) × (most_pages < wanted_pages elf) × (stack_size (args_of asked) asked.env ≤ most_stack_bytes)
 Unprepared tree reads_before reads_after words (causes.ReadFault parts.Folder) =
     IsAccepted words × Rose reads_before reads_after
 Unprepared tree reads_before reads_after words (causes.ReadFault (parts.Device device)) = ⊥

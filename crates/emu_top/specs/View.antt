@@ -4,13 +4,13 @@
 use Rattle.std.specs.Prelude.{map}
 use Rattle.guest_core.specs.declared.places.Place.{Place}
 use Rattle.guest_core.specs.declared.places.Place.TheVariants.{Loop, Start, Window, Done}
-use Rattle.isa_exec.specs.declared.registers.Regs.{Regs}
+use Rattle.isa_exec.specs.Registers.{Registers}
 use Rattle.guest_core.specs.Call.{answered}
 use Rattle.guest_core.specs.Machine.{Context, Machine, Thread}
 use Rattle.linux_model.specs.declared.task.Task.{Task}
 use Rattle.linux_model.specs.Process.{ProcessState, TaskContext}
 
-abbrev pub shown_regs : Place → Regs → Regs
+abbrev pub shown_regs : Place → Registers → Registers
 shown_regs Loop regs = regs
 shown_regs Start regs = regs
 shown_regs Window regs = regs

@@ -1,9 +1,9 @@
 //! The schedule of `solo`: one step after another, each followed by what it wrote.
 
-ghost use Rattle.std.specs.Prelude.{◌≡◌, ◌≤◌, ◌<◌, ◌+◌, ◌^◌, ◌++◌, ◌∷◌, [], ℕ, None, Some, Err, map, length, take, slice_index, slice_index_or, slice_set, OnOk, OnErr, IfOk, IfErr};
+ghost use Rattle.std.specs.Prelude.{◌≡◌, ◌≤◌, ◌<◌, ◌+◌, ◌^◌, ◌++◌, ◌∷◌, [], ℕ, None, Some, Err, map, length, take, slice_index, slice_index_or, slice_set, OnOk, OnErr, IfOk, IfErr, IfSome, IfNone};
 ghost use Rattle.guest_core.specs.Event.{event_after};
 ghost use Rattle.guest_core.specs.Machine.{first_thread};
-ghost use Rattle.guest_core.specs.Growth.{lengthens, Lengthened};
+ghost use Rattle.host_calls.specs.Owes.{Grows};
 ghost use Rattle.emu_top.specs.Told.{more, Rose};
 ghost use Rattle.emu_top.specs.Sending.{AreUnread, NoneFell, OthersStill};
 ghost use Rattle.emu_top.specs.Running.{WentAhead, Stepped, KeepsSent, Halted, Ended, Stopped};
@@ -30,13 +30,16 @@ pub enum Halt {
     Memory,
 }
 
+/// The most devices that a run has.
+const MOST_DEVICES: usize = 8;
+
 /// Makes the next step and notes it. After want of memory nothing was made.
 fn advance(core: &mut Core, journal: &mut Journal) -> Result<(), AllocError>
     requires lives { core.old.end ≡ None }
     requires count { length journal.old.events + 1 < 2 ^ 32 }
     ensures event { OnOk result (event_after core.old (Event.Step first_thread) ≡ Some core.new) }
     ensures noted { OnOk result (journal.new.events ≡ journal.old.events ++ Event.Step first_thread ∷ []) }
-    ensures outputs { OnOk result (Lengthened (lengthens core.old (Event.Step first_thread)) core.old.shared.outputs core.new.shared.outputs) }
+    ensures outputs { OnOk result (Grows core.old.shared.files.outputs core.new.shared.files.outputs) }
     ensures stays { OnErr result (core.new ≡ core.old) }
     ensures unnoted { OnErr result (journal.new.events ≡ journal.old.events) }
     ensures budget { journal.new.budget ≡ journal.old.budget }
@@ -67,6 +70,35 @@ fn send<D: Device>(devices: &mut Vec<D>, device: usize, bytes: &[u8]) -> Result<
     devices[device].take(bytes)
 }
 
+/// The lengths of the outputs.
+fn lengths(core: &Core) -> [usize; MOST_DEVICES]
+    requires { length core.now.shared.files.outputs ≤ 8 }
+    ensures { (device : ℕ) → device < length core.now.shared.files.outputs
+        → slice_index result device ≡ length (slice_index_or core.now.shared.files.outputs device []) }
+{
+    let mut lengths = [0; MOST_DEVICES];
+    for device in 0..core.devices() {
+        lengths[device] = core.output(device).len();
+    }
+    lengths
+}
+
+/// The first device whose output is longer than it was.
+fn longer(core: &Core, before: &[usize; MOST_DEVICES]) -> Option<usize>
+    requires { length core.now.shared.files.outputs ≤ 8 }
+    ensures within { IfSome result (λ device. device < length core.now.shared.files.outputs) }
+    ensures longer { IfSome result (λ device. slice_index before.now device < length (slice_index_or core.now.shared.files.outputs device [])) }
+    ensures none { IfNone result ((device : ℕ) → device < length core.now.shared.files.outputs
+        → length (slice_index_or core.now.shared.files.outputs device []) ≤ slice_index before.now device) }
+{
+    for device in 0..core.devices() {
+        if before[device] < core.output(device).len() {
+            return Some(device);
+        }
+    }
+    None
+}
+
 /// Makes steps that make an instruction and nothing else, at most `limit`, as far as they go, and notes them at once. So
 /// nothing is written. After want of memory nothing was made.
 fn go_ahead<D: Device>(run: &mut Run<D>, limit: u32) -> Result<(), AllocError>
@@ -83,28 +115,27 @@ fn go_ahead<D: Device>(run: &mut Run<D>, limit: u32) -> Result<(), AllocError>
 fn turn<D: Device>(run: &mut Run<D>) -> Result<(), Halt>
     requires lives { run.old.core.end ≡ None }
     requires count { length run.old.journal.events + 1 < 2 ^ 32 }
-    requires devices { length run.old.devices.items ≡ length run.old.core.shared.outputs }
+    requires devices { length run.old.devices.items ≡ length run.old.core.shared.files.outputs }
+    requires few { length run.old.core.shared.files.outputs ≤ 8 }
     ensures stepped { OnOk result (Stepped run.old run.new) }
     ensures sent { OnOk result (KeepsSent D.held run.old run.new) }
     ensures halted { IfErr result (λ halt. Halted D.held D.failed_writes halt run.old run.new) }
     ensures none_fell { NoneFell (map D.failed_writes run.old.devices.items) (map D.failed_writes run.new.devices.items) }
     ensures devices { length run.new.devices.items ≡ length run.old.devices.items }
-    ensures outputs { length run.new.core.shared.outputs ≡ length run.old.core.shared.outputs }
+    ensures outputs { length run.new.core.shared.files.outputs ≡ length run.old.core.shared.files.outputs }
     ensures budget { run.new.journal.budget ≡ run.old.journal.budget }
     ensures unread { AreUnread D.left D.failed_reads run.old.devices.items run.new.devices.items }
     ensures still { OnOk result (map D.failed_writes run.new.devices.items ≡ map D.failed_writes run.old.devices.items) }
 {
-    match run.core.lengthens(&Event::Step(FIRST_THREAD)) {
-        None => match advance(&mut run.core, &mut run.journal) {
-            Ok(()) => Ok(()),
-            Err(_) => Err(Halt::Memory),
-        },
+    let before = lengths(&run.core);
+    match advance(&mut run.core, &mut run.journal) {
+        Ok(()) => {}
+        Err(_) => return Err(Halt::Memory),
+    }
+    match longer(&run.core, &before) {
+        None => Ok(()),
         Some(device) => {
-            let before = run.core.output(device).len();
-            if advance(&mut run.core, &mut run.journal).is_err() {
-                return Err(Halt::Memory);
-            }
-            let fresh = &run.core.output(device)[before..];
+            let fresh = &run.core.output(device)[before[device]..];
             match send(&mut run.devices, device, fresh) {
                 Ok(()) => Ok(()),
                 Err(DeviceFailed) => Err(Halt::Device(device)),
@@ -116,7 +147,8 @@ fn turn<D: Device>(run: &mut Run<D>) -> Result<(), Halt>
 /// Makes steps until the process has ended or the budget is spent.
 pub fn run_to_end<D: Device>(run: &mut Run<D>) -> Result<End, Halt>
     requires fresh { run.old.journal.events ≡ [] }
-    requires devices { length run.old.devices.items ≡ length run.old.core.shared.outputs }
+    requires devices { length run.old.devices.items ≡ length run.old.core.shared.files.outputs }
+    requires few { length run.old.core.shared.files.outputs ≤ 8 }
     ensures ended { IfOk result (λ end. Ended D.held end run.old run.new) }
     ensures stopped { IfErr result (λ halt. Stopped D.held D.failed_writes halt run.old run.new) }
     ensures none_fell { NoneFell (map D.failed_writes run.old.devices.items) (map D.failed_writes run.new.devices.items) }

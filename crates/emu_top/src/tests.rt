@@ -369,7 +369,7 @@ fn calls(number: u32, descriptor: u32, address: u32, length: u32) -> [u32; 7] {
 
 #[test]
 fn answers_of_calls(rt: HostRuntime) -> Result<(), Fail> {
-    // write of no byte, of two bytes, to no device, from no memory, of the zeros behind the file's bytes; and no call
+    // write of no byte, of two bytes, to no device, from no memory, of the zeros behind the bytes of the file; and no call
     let table = [
         (64, 1, 0x10, 0, 0),
         (64, 2, 0x10, 2, 2),
@@ -378,6 +378,9 @@ fn answers_of_calls(rt: HostRuntime) -> Result<(), Fail> {
         (64, 1, 0x20, 2, 256 - 14),
         (64, 1, 0x10, 29, 29),
         (1000, 1, 0x10, 2, 256 - 38),
+        // the id of the process, 1000, of which the status is the low byte; and a call that is not there yet
+        (172, 0, 0x10, 0, 1000 % 256),
+        (56, 0, 0x10, 0, 256 - 38),
     ];
     for (number, descriptor, address, length, status) in table {
         let words = calls(number, descriptor, address, length);

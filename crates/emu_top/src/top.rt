@@ -264,8 +264,9 @@ fn execute<D: Device>(
     budget: u32,
     devices: Vec<D>,
 ) -> Result<Finished<D>, Stopped<D>>
-    requires devices { length devices.items ≡ length core.shared.outputs }
-    requires quiet { map D.held devices.items ≡ sent (map D.held devices.items) core.shared.outputs }
+    requires devices { length devices.items ≡ length core.shared.files.outputs }
+    requires few { length devices.items ≤ 8 }
+    requires quiet { map D.held devices.items ≡ sent (map D.held devices.items) core.shared.files.outputs }
     ensures finished { IfOk result (λ f. CoreFinishes D.held core budget devices.items f.end f.status f.journal f.devices.items) }
     ensures stopped { IfErr result (λ f. CoreStops D.held D.failed_writes core budget devices.items f.halt f.journal f.devices.items) }
     ensures unread { MatchResult result

@@ -1,1 +1,12 @@
+pub mod Answers
+pub mod Entries
 pub mod Errors
+pub mod Files
+pub mod Holds
+pub mod Making
+pub mod Nodes
+pub mod Paths
+pub mod Ready
+pub mod Unlinking
+pub mod Walk
+pub mod Whole

@@ -2,17 +2,19 @@
 use Rattle.std.proofs.Common.{◌≡◌, ℕ, zero, suc, ◌+◌, inl, inr, arith, Bool, true, false, cond, List, [], ◌∷◌, Option, Some, None, replicate, refl, ap, sym, subst, ◌∙◌}
 use Rattle.std.proofs.Math.Numerals.{suc-eq-add-one}
 use Rattle.std.proofs.lemmas.Bool.{cases_lt}
-use Rattle.isa_exec.specs.declared.registers.Regs.{Regs}
+use Rattle.isa_exec.specs.Registers.{Registers}
 use Rattle.guest_pages.specs.Ranges.{Range}
 use Rattle.word_memory.specs.declared.reservations.Held.{Held}
 use Rattle.guest_core.specs.declared.events.Event.{Event}
 use Rattle.guest_core.specs.declared.events.Event.TheVariants.{Step}
 use Rattle.guest_core.specs.declared.places.Place.{Place}
 use Rattle.guest_core.specs.declared.places.Place.TheVariants.{Loop, Start, Window, Done}
-use Rattle.guest_core.specs.declared.queue.Instance.{Instance}
-use Rattle.guest_core.specs.Instruction as step
-use Rattle.guest_core.specs.Machine.{Context, Machine, alone, later}
-use Rattle.guest_core.specs.Pending.{first_new, first_of, is_empty}
+use Rattle.host_calls.specs.declared.queue.Instance.{Instance}
+use Rattle.isa_step.specs.Instruction.{Runs}
+use Rattle.guest_core.specs.Machine.{Context, Machine, alone}
+use Rattle.host_calls.specs.Shared.{later}
+use Rattle.host_calls.specs.Marks.{first_new}
+use Rattle.host_calls.specs.Queue.{first_of, is_empty}
 use Rattle.guest_core.specs.Rows.{Row, Execute, ClearFlag, due_now, note_or, take_or, row_at, row_of, flagged_row, done, executed, after, instruction_of, stepped, ticked}
 use Rattle.guest_core.specs.Event.{event_after, happens, run}
 use Rattle.guest_core.specs.Kept.{Keeps, KeepsThread}
@@ -22,7 +24,7 @@ use Rattle.guest_core.proofs.Due.{row_of_ticked}
 use Rattle.guest_core.proofs.KeptFacts.{step_keeps}
 
 -- what such a step leaves
-abbrev pub plainly : Context → Regs → List Range → List Held → Context
+abbrev pub plainly : Context → Registers → List Range → List Held → Context
 plainly context regs memory held = record context {
   thread = record context.thread { regs = regs };
   shared = record (later context.shared) { memory = memory; held = held };
@@ -31,20 +33,20 @@ plainly context regs memory held = record context {
 done_by : (row : Row) (context : Context) → row ≡ Execute → done row context ≡ executed context
 done_by row context is = rw is refl
 
-plain_step : (context : Context) (regs : Regs) (memory : List Range) (held : List Held) → IsReady context → instruction_of context ≡ step.Outcome.Runs regs memory held → stepped (ticked context) ≡ plainly context regs memory held
+plain_step : (context : Context) (regs : Registers) (memory : List Range) (held : List Held) → IsReady context → instruction_of context ≡ Runs regs memory held → stepped (ticked context) ≡ plainly context regs memory held
 unfolding stepped executed ticked
 plain_step context regs memory held ready runs =
     done_by (row_of (ticked context)) (ticked context) (row_of_ticked context ∙ ready.row)
     ∙ ap (λ outcome. after outcome (ticked context)) runs
 
-row_at_by : (place : Place) (context : Context) (regs : Regs) (memory : List Range) (held : List Held) → row_at place (plainly context regs memory held) ≡ row_at place context
+row_at_by : (place : Place) (context : Context) (regs : Registers) (memory : List Range) (held : List Held) → row_at place (plainly context regs memory held) ≡ row_at place context
 unfolding flagged_row
 row_at_by Loop context regs memory held = refl
 row_at_by Start context regs memory held = refl
 row_at_by Window context regs memory held = refl
 row_at_by (Done answer) context regs memory held = refl
 
-ready_after : (context : Context) (regs : Regs) (memory : List Range) (held : List Held) → IsReady context → IsReady (plainly context regs memory held)
+ready_after : (context : Context) (regs : Registers) (memory : List Range) (held : List Held) → IsReady context → IsReady (plainly context regs memory held)
 unfolding row_of
 ready_after context regs memory held ready = record {
   lives = ready.lives;
@@ -55,9 +57,9 @@ ready_after context regs memory held ready = record {
 pub record WasMade (old new : Context) : Type 0 where
   pub made : new ≡ stepped (ticked old)
   pub ready : IsReady new
-  pub outputs : new.shared.outputs ≡ old.shared.outputs
+  pub outputs : new.shared.files.outputs ≡ old.shared.files.outputs
 
-pub was_made : (old new : Context) (regs : Regs) (memory : List Range) (held : List Held) → IsReady old → instruction_of old ≡ step.Outcome.Runs regs memory held → new ≡ ticked (record old { thread = record old.thread { regs = regs }; shared = record old.shared { memory = memory; held = held } }) → WasMade old new
+pub was_made : (old new : Context) (regs : Registers) (memory : List Range) (held : List Held) → IsReady old → instruction_of old ≡ Runs regs memory held → new ≡ ticked (record old { thread = record old.thread { regs = regs }; shared = record old.shared { memory = memory; held = held } }) → WasMade old new
 unfolding ticked
 was_made old new regs memory held ready runs is = subst (WasMade old) (sym is) (record {
   made = sym (plain_step old regs memory held ready runs);

@@ -3,7 +3,8 @@ use Rattle.std.proofs.Common.{◌≡◌, ℕ, ◌==◌, ◌&&◌, Bool, true, fa
 use Rattle.std.proofs.lemmas.Bool.Decides.{nat_tests}
 use Rattle.guest_core.specs.declared.ends.End.{End}
 use Rattle.guest_core.specs.declared.events.Event.TheVariants.{Step}
-use Rattle.guest_core.specs.Ahead.{GoesOn, GoesOnAs, IsPlain, IsReady}
+use Rattle.guest_core.specs.Ahead.{GoesOn, GoesOnAs, IsReady}
+use Rattle.isa_step.specs.Instruction.{IsPlain}
 use Rattle.guest_core.specs.Event.{event_after, is_enabled, moved}
 use Rattle.guest_core.specs.Kept.{EachKeeps, Keeps, KeepsThread}
 use Rattle.guest_core.specs.Machine.{Context, Machine, Thread, alone, context_of, thread_at, with_context}

@@ -1,7 +1,7 @@
 -- What is due and not noted.
 use Rattle.std.proofs.Common.{◌≡◌, ℕ, List, [], ◌∷◌, None, refl, ap}
-use Rattle.guest_core.specs.declared.queue.Instance.{Instance}
-use Rattle.guest_core.specs.Pending.{first_new}
+use Rattle.host_calls.specs.declared.queue.Instance.{Instance}
+use Rattle.host_calls.specs.Marks.{first_new}
 use Rattle.guest_core.specs.Machine.{Context}
 use Rattle.guest_core.specs.declared.places.Place.{Place}
 use Rattle.guest_core.specs.declared.places.Place.TheVariants.{Loop, Start, Window, Done}

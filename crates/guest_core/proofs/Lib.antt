@@ -1,13 +1,12 @@
 pub mod Due
-pub mod ApartFacts
-pub mod KnownFacts
 pub mod SegmentFacts
 pub mod SoundFacts
-pub mod EffectFacts
 pub mod Noted
 pub mod AloneFacts
 pub mod KeptFacts
-pub mod GrowthFacts
+pub mod OutputFacts
+pub mod CallFacts
 pub mod RunFacts
 pub mod AheadFacts
+pub mod EndFacts
 pub mod StartFacts

@@ -5,7 +5,7 @@ use Rattle.std.proofs.lemmas.Grind.{common_steps}
 use Rattle.std.proofs.lemmas.List.Folds.{list_all-append}
 use Rattle.std.proofs.lemmas.Bool.Decides.{nat_tests}
 use Rattle.std.proofs.lemmas.Map.Views.{any-filter_same}
-use Rattle.guest_core.specs.declared.queue.Instance.{Instance}
+use Rattle.host_calls.specs.declared.queue.Instance.{Instance}
 use Rattle.guest_core.specs.Kept.{has_id, all_have}
 
 pub same_id : (n : ℕ) → (n == n) ≡ true
@@ -61,3 +61,21 @@ all_have_left (id ∷ ids) gone instances all =
 pub none_have : (ids : List ℕ) → all_have ids [] ≡ true → ids ≡ []
 none_have [] all = refl
 none_have (id ∷ ids) all = cc
+
+-- more instances behind these
+has_id_more : (instances sent : List Instance) (id : ℕ) → has_id instances id ≡ true → has_id (instances ++ sent) id ≡ true
+has_id_more [] sent id has = cc
+has_id_more (x ∷ instances) sent id has = either_more (x.id == id) (has_id instances id) (has_id (instances ++ sent) id) (has_id_more instances sent id) has
+  where
+    either_more : (first rest more : Bool) → (rest ≡ true → more ≡ true) → (first || rest) ≡ true → (first || more) ≡ true
+    either_more true rest more later has = refl
+    either_more false rest more later has = later has
+
+pub all_have_sent : (ids : List ℕ) (instances sent : List Instance) → all_have ids instances ≡ true → all_have ids (instances ++ sent) ≡ true
+all_have_sent [] instances sent all = refl
+all_have_sent (id ∷ ids) instances sent all = both_more (has_id instances id) (all_have ids instances) _ _ (has_id_more instances sent id) (all_have_sent ids instances sent) all
+  where
+    both_more : (first rest more others : Bool) → (first ≡ true → more ≡ true) → (rest ≡ true → others ≡ true) → (first && rest) ≡ true → (more && others) ≡ true
+    both_more true true more others this that all = rw (this refl, that refl) refl
+    both_more true false more others this that all = cc
+    both_more false rest more others this that all = cc

@@ -9,10 +9,10 @@ use Rattle.elf_file.specs.Views.{segment_image}
 use Rattle.guest_pages.specs.Cells.{cell}
 use Rattle.guest_pages.proofs.RightsFacts.{both_left, both_right}
 use Rattle.guest_pages.proofs.TableFacts.{cell_kept}
-use Rattle.start_stack.proofs.PlacedFacts.{choice_kept}
+use Rattle.guest_pages.proofs.CellFacts.{choice_kept}
 use Rattle.segment_load.specs.Loading.{byte_at, cell_of, either, is_touched, loaded, page_rights, rights_by, touches}
-use Rattle.guest_core.specs.Apart.{IsApart}
-use Rattle.guest_core.proofs.ApartFacts.{apart_of, choice_apart}
+use Rattle.guest_pages.specs.Apart.{IsApart}
+use Rattle.guest_pages.proofs.ApartFacts.{apart_of, choice_apart}
 
 -- a segment can't be both written and executed
 abbrev pub one_way : SegmentImage → Bool

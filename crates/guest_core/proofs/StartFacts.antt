@@ -5,15 +5,16 @@ use Rattle.elf_file.specs.declared.image.Elf.{Elf}
 use Rattle.elf_file.specs.Reading.{image}
 use Rattle.elf_file.specs.Views.{segment_image}
 use Rattle.guest_pages.specs.Ranges.{Range}
-use Rattle.start_stack.specs.Block.{stack_end}
-use Rattle.start_stack.specs.Placing.{stack_length, stack_rights, with_stack}
-use Rattle.guest_core.specs.declared.decoder.Known.{Known}
-use Rattle.guest_core.specs.Apart.{IsApart}
-use Rattle.guest_core.specs.Start.{Program, being_written, first_memory, program_of, runnable, started, trampoline, trampoline_bytes, with_trampoline}
+use Rattle.start_stack.specs.Placing.{with_stack}
+use Rattle.isa_step.specs.declared.decoder.Known.{Known}
+use Rattle.guest_pages.specs.Apart.{IsApart}
+use Rattle.guest_core.specs.Start.{Program, first_memory, program_of, started, trampoline_bytes, with_trampoline}
+use Rattle.guest_pages.specs.Limits.{trampoline, stack_length, stack_end}
+use Rattle.guest_pages.specs.Faults.{changeable, runnable}
 use Rattle.guest_core.specs.Kept.{Keeps}
-use Rattle.guest_core.specs.Known.{IsKnown}
+use Rattle.isa_step.specs.Known.{IsKnown}
 use Rattle.guest_core.specs.Sound.{IsSound}
-use Rattle.guest_core.proofs.ApartFacts.{apart_placed, apart_protected, apart_written}
+use Rattle.guest_pages.proofs.ApartFacts.{apart_placed, apart_protected, apart_written}
 use Rattle.guest_core.proofs.SegmentFacts.{all_one_way, apart_loaded}
 
 pub start_keeps : (program : Program) (devices : ℕ) → Keeps (started program devices)
@@ -25,8 +26,7 @@ start_keeps program devices = record {
       noted_due = refl;
       flag_set = λ clear. refl;
       window_clear = λ window. refl;
-      at_call = λ apart. absurd (apart refl);
-      zero = refl;
+      before_call = λ lives before. absurd before;
     },
     tt,
   );
@@ -37,8 +37,8 @@ first_apart : (elf : Elf) (args env : List (List ℕ)) → IsApart (first_memory
 unfolding first_memory with_stack with_trampoline
 first_apart elf args env =
     let segments = apart_loaded (map segment_image elf.segments.items) elf.clear (all_one_way elf.segments.items) in
-    let page = apart_protected trampoline 4096 runnable _ refl (apart_written trampoline trampoline_bytes _ (apart_placed trampoline 4096 being_written _ refl segments)) in
-    apart_written _ _ _ (apart_written _ _ _ (apart_placed (stack_end - stack_length) stack_length stack_rights _ refl page))
+    let page = apart_protected trampoline 4096 runnable _ refl (apart_written trampoline trampoline_bytes _ (apart_placed trampoline 4096 changeable _ refl segments)) in
+    apart_written _ _ _ (apart_written _ _ _ (apart_placed (stack_end - stack_length) stack_length changeable _ refl page))
 
 -- so a start keeps what every state keeps, where nothing that isn't there is remembered
 pub start_sound : (elf : Elf) (args env : List (List ℕ)) (devices : ℕ) (known : List Known) → ((memory : List Range) → All (IsKnown memory) known) → IsSound (started (program_of (image elf) args env) devices) known
@@ -46,5 +46,6 @@ unfolding started
 start_sound elf args env devices known all = record {
   keeps = start_keeps (program_of (image elf) args env) devices;
   apart = first_apart elf args env;
+  at_call = ((λ apart. absurd (apart refl)), tt);
   right = all (first_memory (program_of (image elf) args env));
 }

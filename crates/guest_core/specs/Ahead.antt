@@ -4,19 +4,13 @@ use Rattle.std.specs.Prelude.{◌≡◌, ◌<◌, ℕ, Option, Some, None, repli
 use Rattle.guest_core.specs.declared.events.Event.TheVariants.{Step}
 use Rattle.guest_core.specs.Event.{run}
 use Rattle.guest_core.specs.Machine.{Context, Machine, Thread, context_of, thread_at}
-use Rattle.guest_core.specs.Instruction.{Outcome, Runs, Calls, Faults}
+use Rattle.isa_step.specs.Instruction.{IsPlain}
 use Rattle.guest_core.specs.Rows.{Execute, row_of, instruction_of}
 
 -- the process lives, and the thread's next step is an instruction's
 pub record IsReady (context : Context) : Type 0 where
   pub lives : context.end ≡ None
   pub row : row_of context ≡ Execute
-
--- the instruction neither asks for a call nor faults
-abbrev pub IsPlain : Outcome → Type 0
-IsPlain (Runs regs memory held) = Unit {0}
-IsPlain Calls = ⊥
-IsPlain (Faults fault) = ⊥
 
 -- the thread is there, and its next step is such an instruction's
 abbrev pub GoesOnAs : Option Thread → Machine → Type 0

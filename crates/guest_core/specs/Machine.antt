@@ -5,28 +5,16 @@ use Rattle.std.specs.Prelude.{ℕ, ◌==◌, ◌+◌, ◌-◌, ◌^◌, min, Boo
 use Rattle.std.specs.List.{find}
 use Rattle.guest_core.specs.declared.ends.End.{End}
 use Rattle.guest_core.specs.declared.places.Place.{Place}
-use Rattle.guest_core.specs.declared.queue.Instance.{Instance}
-use Rattle.isa_exec.specs.declared.registers.Regs.{Regs}
+use Rattle.host_calls.specs.Shared.{Shared}
+use Rattle.host_calls.specs.declared.queue.Instance.{Instance}
+use Rattle.isa_exec.specs.Registers.{Registers}
 use Rattle.guest_pages.specs.Ranges.{Range}
 use Rattle.word_memory.specs.declared.reservations.Held.{Held}
-
--- what the system has beside its threads: also a Linux process has it, and calls change it
-pub record Shared : Type 0 where
-  pub memory : List Range
-  -- the reservations of threads
-  pub held : List Held
-  -- what was written to each device
-  pub outputs : List (List ℕ)
-  -- the pending signals, in the order of their ids, and the next id
-  pub pending : List Instance
-  pub next_id : ℕ
-  -- in nanoseconds
-  pub clock : ℕ
 
 -- what a thread has of its own
 pub record Thread : Type 0 where
   pub id : ℕ
-  pub regs : Regs
+  pub regs : Registers
   pub place : Place
   pub flag : Bool
   -- the ids of the pending signals that it has noted
@@ -78,17 +66,3 @@ alone context = record { shared = context.shared; threads = context.thread ∷ [
 -- the first thread of a process
 abbrev pub first_thread : ℕ
 first_thread = 1000
-
--- ---- signals and time
-
--- The pending signals that act on the thread next, in order. There is one thread yet, so that all are its, and all are
--- forced, so that none is blocked.
-abbrev pub due : ℕ → Shared → List Instance
-due thread shared = shared.pending
-
--- time goes on by 100 ns, at most to its type's end
-abbrev pub later_clock : ℕ → ℕ
-later_clock clock = min (clock + 100) (2 ^ 64 - 1)
-
-abbrev pub later : Shared → Shared
-later shared = record shared { clock = later_clock shared.clock }

@@ -1,14 +1,18 @@
 -- A thread's step: which row fits its state, and what each row does.
 -- The project's own, after the safe system calls of QEMU's linux-user.
-use Rattle.std.specs.Prelude.{◌⊎◌, ◌+◌, ◌<◌, ◌^◌, ◌==◌, true, false, not, if◌then◌else◌, ℤ, [], ◌∷◌, ◌++◌, List, filter, Option, Some, None}
+use Rattle.std.specs.Prelude.{◌⊎◌, ◌+◌, ◌<◌, ◌^◌, true, false, if◌then◌else◌, ℤ, [], ◌∷◌, ◌++◌, List, Option, Some, None}
 use Rattle.guest_core.specs.declared.places.Place.{Place}
 use Rattle.guest_core.specs.declared.places.Place.TheVariants.{Loop, Start, Window, Done}
-use Rattle.guest_core.specs.declared.queue.Instance.{Instance}
-use Rattle.guest_core.specs.Pending.{first_new, first_of, is_empty}
-use Rattle.guest_core.specs.Instruction as step
-use Rattle.guest_core.specs.Call as call
-use Rattle.guest_core.specs.Machine.{Context, due, later}
-use Rattle.guest_core.specs.Signals.{forced, taken_out, end_of_taking}
+use Rattle.host_calls.specs.declared.queue.Instance.{Instance}
+use Rattle.host_calls.specs.Marks.{first_new, without}
+use Rattle.isa_step.specs.Instruction.{Calls, Faults, InstructionOutcome, IsFaultless, Runs, instruction}
+use Rattle.guest_core.specs.Call.{Called, answered, called}
+use Rattle.guest_core.specs.declared.calls.CallOutcome.{CallOutcome}
+use Rattle.guest_core.specs.declared.calls.CallOutcome.TheVariants.{Answers, Ends}
+use Rattle.guest_core.specs.Machine.{Context}
+use Rattle.host_calls.specs.Shared.{later}
+use Rattle.guest_core.specs.Signals.{end_of_taking}
+use Rattle.host_calls.specs.Queue.{sent_forced, taken_out, due, first_of, is_empty}
 
 pub data Row : Type 0 where
   Note : Instance → Row
@@ -21,7 +25,7 @@ pub data Row : Type 0 where
 
 -- the signals that act on the thread next
 abbrev pub due_now : Context → List Instance
-due_now context = due context.thread.id context.shared
+due_now context = due context.thread.id context.shared.queue
 
 -- a due signal that isn't noted goes before all else
 abbrev pub note_or : Option Instance → Row → Row
@@ -67,26 +71,26 @@ noted instance context = record context {
 -- the signal is taken, and is noted no more
 unfoldable pub taken : Instance → Context → Context
 taken instance context = record context {
-  shared = taken_out instance context.shared;
-  thread = record context.thread { noted = filter (λ id. not (id == instance.id)) context.thread.noted };
+  shared = record context.shared { queue = taken_out instance context.shared.queue };
+  thread = record context.thread { noted = without instance context.thread.noted };
   end = Some (end_of_taking instance);
 }
 
 unfoldable pub flag_cleared : Context → Context
 flag_cleared context = record context { thread = record context.thread { flag = false } }
 
-abbrev pub after : step.Outcome → Context → Context
-after (step.Outcome.Runs regs memory held) context = record context {
+abbrev pub after : InstructionOutcome → Context → Context
+after (Runs regs memory held) context = record context {
   thread = record context.thread { regs = regs };
   shared = record context.shared { memory = memory; held = held };
 }
-after step.Outcome.Calls context = record context { thread = record context.thread { place = Start } }
-after (step.Outcome.Faults fault) context = record context { shared = forced fault context.shared }
+after Calls context = record context { thread = record context.thread { place = Start } }
+after (Faults fault) context = record context { shared = record context.shared { queue = sent_forced fault context.shared.queue } }
 
 -- what the thread's instruction does
-abbrev pub instruction_of : Context → step.Outcome
+abbrev pub instruction_of : Context → InstructionOutcome
 instruction_of context =
-    step.instruction context.thread.id context.thread.regs context.shared.memory context.shared.held
+    instruction context.thread.id context.thread.regs context.shared.memory context.shared.held
 
 unfoldable pub executed : Context → Context
 executed context = after (instruction_of context) context
@@ -97,21 +101,21 @@ checked context = record context {
   thread = record context.thread { place = if context.thread.flag then Loop else Window };
 }
 
-abbrev pub after_call : call.Called → Context → Context
-after_call called context = after_outcome called.outcome (record context { shared = called.shared })
+abbrev pub after_call : Called → Context → Context
+after_call made context = after_outcome made.outcome (record context { shared = made.shared })
   where
-    after_outcome : call.Outcome → Context → Context
-    after_outcome (call.Outcome.Answers answer) context = record context { thread = record context.thread { place = Done answer } }
-    after_outcome (call.Outcome.Ends end) context = record context { end = Some end }
+    after_outcome : CallOutcome → Context → Context
+    after_outcome (Answers answer) context = record context { thread = record context.thread { place = Done answer } }
+    after_outcome (Ends end) context = record context { end = Some end }
 
 -- the host is entered
 unfoldable pub entered : Context → Context
-entered context = after_call (call.called context.thread.id context.thread.regs context.shared) context
+entered context = after_call (called context.thread.id context.thread.regs context.shared) context
 
 -- the answer reaches the registers
 unfoldable pub returned : ℤ → Context → Context
 returned answer context = record context {
-  thread = record context.thread { regs = call.answered answer context.thread.regs; place = Loop };
+  thread = record context.thread { regs = answered answer context.thread.regs; place = Loop };
 }
 
 abbrev pub done : Row → Context → Context
@@ -137,11 +141,11 @@ abbrev pub RowIsSteady : Row → Context → Type 0
 RowIsSteady (Note instance) context = Unit {0}
 RowIsSteady (Take instance) context = Unit {0}
 RowIsSteady ClearFlag context = Unit {0}
-RowIsSteady Execute context = step.IsFaultless (instruction_of context) ⊎ (context.shared.next_id + 1 < 2 ^ 64)
+RowIsSteady Execute context = IsFaultless (instruction_of context) ⊎ (context.shared.queue.next_id + 1 < 2 ^ 64)
 RowIsSteady Check context = Unit {0}
-RowIsSteady Enter context = call.IsSteady context.thread.regs
+RowIsSteady Enter context = ⊥
 RowIsSteady (Return answer) context = Unit {0}
 
--- the step writes to no device, and has an id left where it meets a fault
+-- the step makes no call, and has an id left where it meets a fault
 abbrev pub IsSteady : Context → Type 0
 IsSteady context = RowIsSteady (row_of context) context

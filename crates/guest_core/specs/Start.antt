@@ -6,16 +6,20 @@ use Rattle.byteorder.specs.Endian.{little_bytes}
 use Rattle.elf_file.specs.Reading.{Image}
 use Rattle.segment_load.specs.Loading.{loaded}
 use Rattle.segment_load.specs.Wanted.{pages_of}
-use Rattle.start_stack.specs.Placing.{with_stack, stack_pointer, stack_size, told_size, most_bytes}
+use Rattle.start_stack.specs.Placing.{with_stack, stack_pointer, stack_size, told_size}
+use Rattle.guest_pages.specs.Limits.{most_pages, most_stack_bytes, page_size, trampoline}
+use Rattle.guest_pages.specs.Faults.{changeable, runnable}
+use Rattle.host_calls.specs.Breaks.{break_behind}
+use Rattle.host_calls.specs.Queue.{empty_queue}
 use Rattle.guest_core.specs.declared.places.Place.TheVariants.{Loop}
-use Rattle.isa_exec.specs.declared.registers.Regs.{Regs}
+use Rattle.isa_exec.specs.Registers.{Registers, starting_at, with_register}
 use Rattle.guest_core.specs.declared.starting.StartFault.{StartFault}
 use Rattle.guest_core.specs.declared.starting.StartFault.TheVariants.{StackTooLong, PagesFull, Memory}
-use Rattle.guest_pages.specs.declared.rights.Rights.{Rights}
 use Rattle.guest_pages.specs.Operations.{placed, protected, written}
 use Rattle.guest_pages.specs.Ranges.{Range}
 use Rattle.word_memory.specs.Reservations.{joined}
-use Rattle.guest_core.specs.Machine.{Shared, Machine, alone, first_thread}
+use Rattle.guest_core.specs.Machine.{Machine, alone, first_thread}
+use Rattle.host_calls.specs.Shared.{Shared}
 
 -- a program: its file, its arguments, the first of which is its name, and its environment
 pub record Program : Type 0 where
@@ -25,23 +29,14 @@ pub record Program : Type 0 where
 
 -- ---- memory
 
-abbrev pub being_written : Rights
-being_written = record { read = true; write = true; execute = false }
-
-abbrev pub runnable : Rights
-runnable = record { read = true; write = false; execute = true }
-
--- the page of the trampoline, and its two instructions: `addi a7, x0, 139` and `ecall`
-abbrev pub trampoline : ℕ
-trampoline = 0x3FFFFFF000
-
+-- the two instructions of the trampoline: `addi a7, x0, 139` and `ecall`
 abbrev pub trampoline_bytes : List ℕ
 trampoline_bytes = little_bytes 4 0x08B00893 ++ little_bytes 4 0x00000073
 
 -- its page can be read and executed, and holds zeros behind them
 unfoldable pub with_trampoline : List Range → List Range
 with_trampoline memory =
-    protected trampoline 4096 runnable (written trampoline trampoline_bytes (placed trampoline 4096 being_written memory))
+    protected trampoline page_size runnable (written trampoline trampoline_bytes (placed trampoline page_size changeable memory))
 
 -- the segments, the trampoline and the first stack
 unfoldable pub first_memory : Program → List Range
@@ -55,18 +50,16 @@ abbrev pub first_shared : Program → ℕ → Shared
 first_shared program devices = record {
   memory = first_memory program;
   held = joined first_thread [];
-  outputs = replicate devices [];
-  pending = [];
-  next_id = 0;
+  files = record { outputs = replicate devices [] };
+  queue = empty_queue;
+  program_break = break_behind program.image.top;
+  drawn = 16;
   clock = 0;
 }
 
 -- pc stands at the entry, and sp (x2) at the number of arguments
-abbrev pub first_regs : Program → Regs
-first_regs program = record {
-  pc = program.image.entry;
-  x = slice_set (replicate 32 0) 2 (stack_pointer program.args program.env);
-}
+abbrev pub first_regs : Program → Registers
+first_regs program = with_register 2 (stack_pointer program.args program.env) (starting_at program.image.entry)
 
 unfoldable pub started : Program → ℕ → Machine
 started program devices = alone (record {
@@ -76,10 +69,6 @@ started program devices = alone (record {
 })
 
 -- ---- refusals
-
--- the most pages that a program has
-abbrev pub most_pages : ℕ
-most_pages = 65536
 
 -- the pages that a program wants: those of its segments, 2,048 of the first stack, and the trampoline's
 unfoldable pub wanted_pages : Image → ℕ
@@ -91,7 +80,7 @@ told_pages image = min (wanted_pages image) (2 ^ 64 - 1)
 
 -- the stack and the pages suffice
 pub record FitsIn (program : Program) : Type 0 where
-  pub stack : stack_size program.args program.env ≤ most_bytes
+  pub stack : stack_size program.args program.env ≤ most_stack_bytes
   pub pages : wanted_pages program.image ≤ most_pages
 
 -- a start is made where the stack and the pages suffice, and refused with the size of the first or else the number of the
@@ -99,9 +88,9 @@ pub record FitsIn (program : Program) : Type 0 where
 abbrev pub Starts : Program → ℕ → Result Machine StartFault → Type 0
 Starts program devices (Ok machine) = (machine ≡ started program devices) × FitsIn program
 Starts program devices (Err (StackTooLong size)) =
-    (size ≡ told_size program.args program.env) × (most_bytes < stack_size program.args program.env)
+    (size ≡ told_size program.args program.env) × (most_stack_bytes < stack_size program.args program.env)
 Starts program devices (Err (PagesFull wanted)) =
-    (wanted ≡ told_pages program.image) × (most_pages < wanted_pages program.image) × (stack_size program.args program.env ≤ most_bytes)
+    (wanted ≡ told_pages program.image) × (most_pages < wanted_pages program.image) × (stack_size program.args program.env ≤ most_stack_bytes)
 Starts program devices (Err Memory) = Unit {0}
 
 -- a program of a file that was read, with its arguments and environment

@@ -1,4 +1,4 @@
-use crate::signal::SigNo;
+use isa_step::SigNo;
 
 /// How a run ended.
 #[derive(Clone, Copy)]

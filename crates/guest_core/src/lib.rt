@@ -2,9 +2,8 @@
 //!
 //! # Model
 //!
-//! Contracts see a `Core` as a `Machine`: what the system has (`Shared`: the memory, what was written to each device,
-//! the pending signals, the clock), and of each thread its id, the registers, the place, the flag and the signals that
-//! it has noted. There is one thread yet. `event_after` gives the machine after an event, none where the event isn't
+//! Contracts see a `Core` as a `Machine`: what the system has (`Shared`, of `host_calls`), and of each thread its id, the
+//! registers, the place, the flag and the signals that it has noted. There is one thread yet. `event_after` gives the machine after an event, none where the event isn't
 //! enabled; `run` carries that over a list of events. The type `Core` keeps what `Keeps` says of every state.
 //!
 //! A thread's step is made by the first row that fits (`row_of`), each row a function of what the system has and of that
@@ -23,6 +22,9 @@
 //!                 the answer in a0, pc behind the ecall
 //! ```
 //!
+//! Which call is made at the window no row says: a call is `host_calls::immediate`, but for those of the core's own, today
+//! `exit_group`.
+//!
 //! At `Loop` with a clear flag one instruction is made. Its fault sends a forced signal, which the next two steps note
 //! and take. Each step takes 100 ns of the clock, which is virtual.
 //!
@@ -32,49 +34,31 @@
 //! its pages are too many.
 //!
 //! `Core::event` makes exactly `event_after`, refuses exactly what isn't enabled, and leaves the state after a
-//! refusal. It takes constant time, but for a write by the bytes that it writes, and memory only there and never
-//! elsewhere (`TakesNoMemory`). Outputs only grow, and only that of the device that `Core::lengthens` names.
+//! refusal. It takes constant time, but for a call by the bytes that it names, and memory only there and never elsewhere
+//! (`TakesNoMemory`). Outputs only grow, at most one of them in an event (`Grows`), and the code stays.
 //! `Core::run_on` makes many steps that are an instruction's and nothing else, which are a run of as many events.
 //!
 //! # Sources
 //!
-//! The RISC-V unprivileged manual for instructions, the System V ABI for the start, signal(7), sigaction(2), write(2) and
-//! exit_group(2). The window
-//! between check and host is after the safe system calls of QEMU's linux-user; places, flag, noted signals and virtual
+//! The System V ABI for the start, signal(7) and exit_group(2). The window between check and host is after the safe system calls of QEMU's linux-user; places, flag, noted signals and virtual
 //! time are the project's own.
 #![tactic(auto)]
 
-mod call_table;
 mod calls;
-mod decoder;
-mod effects;
 mod ends;
 mod events;
-mod executing;
-mod faults;
-mod finding;
 mod machine;
-mod near;
-mod output;
 mod places;
-mod queue;
 mod rows;
-mod signal;
 mod starting;
 mod state;
 mod thread;
 
-pub use call_table::{CallNo, call_of};
-pub use calls::read_bytes;
+pub use calls::{CallOutcome, asked, ends_process};
 pub use ends::End;
 pub use events::Event;
-pub use executing::{Made, make_instruction};
-pub use finding::is_at_call;
 pub use machine::{Core, CoreParts, CoreRefusal, FIRST_THREAD};
-pub use output::Outputs;
 pub use places::Place;
-pub use queue::{Fault, Instance};
-pub use signal::SigNo;
 pub use starting::{StartFault, start};
 
 #[cfg(test)]

@@ -2,23 +2,20 @@ ghost use Rattle.std.specs.Prelude.{◌≡◌, ◌≤◌, ◌<◌, replicate, []
 ghost use Rattle.std.specs.Option.{option_copied, option_map};
 ghost use Rattle.guest_core.specs.Event.{is_enabled, event_after, run};
 ghost use Rattle.guest_core.specs.Ahead.{AllGoOn, GoesOn};
-ghost use Rattle.guest_core.specs.Apart.{KeepsCode};
+ghost use Rattle.guest_pages.specs.Apart.{KeepsCode};
 ghost use Rattle.guest_core.specs.Machine.{thread_at};
 ghost use Rattle.guest_core.specs.Runs.{TakesNoMemory, Stopped};
-ghost use Rattle.guest_core.specs.Growth.{lengthens, Lengthened};
+ghost use Rattle.host_calls.specs.Host.{shared_of};
+ghost use Rattle.host_calls.specs.Owes.{Grows};
 
-use crate::call_table::{CallNo, call_of};
-use crate::decoder::Decoder;
 use crate::ends::End;
 use crate::events::Event;
-use crate::output::Outputs;
-use crate::places::Place;
-use crate::state::{Host, State};
+use crate::state::{State, System};
 use crate::thread::Thread;
-use guest_pages::Pages;
+use host_calls::Host;
 use isa_exec::Regs;
+use isa_step::Decoder;
 use std::marker::Model;
-use word_memory::Reservations;
 
 /// The first thread of a process.
 pub const FIRST_THREAD: u32 = 1000;
@@ -32,12 +29,11 @@ pub enum CoreRefusal {
     Memory,
 }
 
-/// What a core is made of, beside what is pending.
+/// What a core is made of.
 #[derive(Drop)]
 pub struct CoreParts {
-    pub memory: Pages,
-    pub held: Reservations,
-    pub outputs: Outputs,
+    pub host: Host,
+    /// Those of the one thread.
     pub regs: Regs,
 }
 
@@ -73,8 +69,8 @@ impl Core {
         Core { state, decoder }
     }
 
-    /// Makes an event. After a refusal the state is as before. It takes constant time, and memory only where a call
-    /// writes to a device.
+    /// Makes an event. After a refusal the state is as before. It takes constant time, but for a call by the bytes that it
+    /// names, and memory only where a call is made.
     #[tactic(auto, unfolding(crate::specs::Event::event_after))]
     pub fn event(&mut self, event: &Event) -> Result<(), CoreRefusal>
         ensures happens { OnOk result (event_after self.old event.now ≡ Some self.new) }
@@ -82,13 +78,13 @@ impl Core {
         ensures refused { result ≡ Err CoreRefusal.NotNow → event_after self.old event.now ≡ None }
         ensures not_enabled { event_after self.old event.now ≡ None → result ≡ Err CoreRefusal.NotNow }
         ensures steady { TakesNoMemory self.old event.now → IsOk result }
-        ensures outputs { OnOk result (Lengthened (lengthens self.old event.now) self.old.shared.outputs self.new.shared.outputs) }
+        ensures outputs { OnOk result (Grows self.old.shared.files.outputs self.new.shared.files.outputs) }
         ensures code { OnOk result (KeepsCode self.old.shared.memory self.new.shared.memory) }
     {
         if !self.enabled(event) {
             return Err(CoreRefusal::NotNow);
         }
-        match self.state.thread.step(&mut self.state.host) {
+        match self.state.thread.step(&mut self.state.system) {
             Ok(()) => Ok(()),
             Err(_) => Err(CoreRefusal::Memory),
         }
@@ -102,14 +98,14 @@ impl Core {
         ensures ran { run (Some self.old) (replicate result (Event.Step thread)) ≡ Some self.new }
         ensures plain { AllGoOn thread self.old result }
         ensures stops { result < limit → GoesOn thread self.new → ⊥ }
-        ensures outputs { self.new.shared.outputs ≡ self.old.shared.outputs }
+        ensures outputs { self.new.shared.files.outputs ≡ self.old.shared.files.outputs }
         ensures end { self.new.end ≡ self.old.end }
         ensures code { KeepsCode self.old.shared.memory self.new.shared.memory }
     {
         if thread != self.state.thread.id {
             return 0;
         }
-        if !self.state.thread.is_ready(&self.state.host) {
+        if !self.state.thread.is_ready(&self.state.system) {
             return 0;
         }
         self.state.run_on(&mut self.decoder, limit)
@@ -129,35 +125,13 @@ impl Core {
         Ok(())
     }
 
-    /// The device whose output the event may lengthen. An event lengthens no other.
-    #[tactic(auto, unfolding(crate::specs::Growth::lengthens, crate::specs::Call::output_of_call))]
-    pub fn lengthens(&self, event: &Event) -> Option<usize>
-        ensures device { result ≡ lengthens self.now event.now }
-        ensures within { IfSome result (λ device. device < length self.now.shared.outputs) }
-    {
-        let Event::Step(id) = *event;
-        let State { host, thread } = &self.state;
-        if id != thread.id || thread.place != Place::Window {
-            return None;
-        }
-        match call_of(thread.regs.register(17)) {
-            Some(CallNo::Write) => {}
-            Some(CallNo::ExitGroup) | None => return None,
-        }
-        let descriptor = thread.regs.register(10);
-        if descriptor < host.outputs.len() as u64 {
-            Some(descriptor as usize)
-        } else {
-            None
-        }
-    }
-
     /// Whether the event is enabled.
     pub fn enabled(&self, event: &Event) -> bool
         ensures { result ≡ is_enabled self.now event.now }
     {
         match *event {
-            Event::Step(thread) => self.state.host.end.is_none() && thread == self.state.thread.id,
+            Event::Step(thread) => self.state.system.end.is_none()
+                && thread == self.state.thread.id,
         }
     }
 
@@ -165,7 +139,7 @@ impl Core {
     pub fn ended(&self) -> Option<End>
         ensures { result ≡ self.now.end }
     {
-        self.state.host.end
+        self.state.system.end
     }
 
     /// The registers of a thread, `None` exactly where it does not live.
@@ -179,43 +153,31 @@ impl Core {
         }
     }
 
-    /// The memory, the outputs, and the one thread's registers.
+    /// What the system has, and the one thread's registers.
     pub fn into_parts(self) -> CoreParts
-        ensures memory { result.memory ≡ self.shared.memory }
-        ensures held { result.held ≡ self.shared.held }
-        ensures outputs { result.outputs ≡ self.shared.outputs }
+        ensures host { shared_of result.host ≡ self.shared }
         ensures regs { map (λ thread. thread.regs) self.threads ≡ result.regs ∷ [] }
     {
         let Core { state, decoder: _ } = self;
         let State {
-            host: Host {
-                memory,
-                held,
-                outputs,
-                ..
-            },
+            system: System { host, end: _ },
             thread: Thread { regs, .. },
         } = state;
-        CoreParts {
-            memory,
-            held,
-            outputs,
-            regs,
-        }
+        CoreParts { host, regs }
     }
 
     /// The number of devices.
     pub fn devices(&self) -> usize
-        ensures { result ≡ length self.now.shared.outputs }
+        ensures { result ≡ length self.now.shared.files.outputs }
     {
-        self.state.host.outputs.len()
+        self.state.system.host.outputs.len()
     }
 
     /// What was written to a device, in order.
     pub fn output(&self, device: usize) -> &[u8]
-        requires { device < length self.now.shared.outputs }
-        ensures { result.now ≡ slice_index_or self.now.shared.outputs device [] }
+        requires { device < length self.now.shared.files.outputs }
+        ensures { result.now ≡ slice_index_or self.now.shared.files.outputs device [] }
     {
-        self.state.host.outputs.get(device)
+        self.state.system.host.outputs.get(device)
     }
 }

@@ -4,48 +4,31 @@ ghost use Rattle.guest_core.specs.Start.{first_memory, program_of, started, with
 ghost use Rattle.guest_core.specs.State.{machine};
 ghost use Rattle.start_stack.specs.Placing.{stack_pointer};
 
-use crate::decoder::Decoder;
 use crate::machine::{Core, FIRST_THREAD};
-use crate::output::Outputs;
 use crate::places::Place;
-use crate::queue::Pending;
-use crate::state::{Host, State};
+use crate::state::{State, System};
 use crate::thread::Thread;
 use elf_file::Elf;
 use file_tree::Text;
-use guest_pages::{Pages, Rights};
+use guest_pages::{
+    CHANGEABLE, MOST_PAGES, MOST_STACK_BYTES, Pages, RUNNABLE, STACK_PAGES, TRAMPOLINE,
+};
+use host_calls::{Break, Host, Outputs, Pending};
 use isa_exec::Regs;
+use isa_step::Decoder;
 use segment_load::{load, wanted_pages};
 use start_stack::{place, size_of};
 use std::alloc::{AllocError, Global};
 use word_memory::Reservations;
 
-/// The most pages that a program has.
-const MOST_PAGES: u64 = 65536;
-
 /// The pages of the first stack and of the trampoline.
-const OTHER_PAGES: u64 = 2049;
+const OTHER_PAGES: u64 = STACK_PAGES + 1;
 
-/// The most bytes of the texts and words of the first stack.
-const MOST_STACK: u64 = 131_072;
-
-/// The byte address of the trampoline's page.
-const TRAMPOLINE: u64 = 0x3F_FFFF_F000;
+/// The random bytes that the first stack holds.
+const FIRST_RANDOM: u64 = 16;
 
 /// `addi a7, x0, 139` and `ecall`, the lowest byte first.
 const TRAMPOLINE_BYTES: [u8; 8] = [0x93, 0x08, 0xB0, 0x08, 0x73, 0, 0, 0];
-
-const BEING_WRITTEN: Rights = Rights {
-    read: true,
-    write: true,
-    execute: false,
-};
-
-const RUNNABLE: Rights = Rights {
-    read: true,
-    write: false,
-    execute: true,
-};
 
 /// Why no start was made.
 #[derive(Clone, Copy, Debug, PartialEq, Eq)]
@@ -75,7 +58,7 @@ pub fn start(
     ensures { Starts (program_of (image elf.now) args.now env.now) devices result }
 {
     let size = size_of(args, env);
-    if size > MOST_STACK {
+    if size > MOST_STACK_BYTES {
         return Err(StartFault::StackTooLong { size });
     }
     let wanted = wanted_pages(elf).saturating_add(OTHER_PAGES);
@@ -103,24 +86,28 @@ fn state_of(
     requires { 0 < length args.now }
     ensures { IfOk result (λ state. machine state ≡ started (program_of (image elf.now) args.now env.now) devices) }
 {
-    let (memory, pointer) = memory_of(alloc, elf, args, env)?;
+    let (pages, pointer) = memory_of(alloc, elf, args, env)?;
     let mut held = Reservations::new(alloc);
     held.add_thread(FIRST_THREAD)?;
     let outputs = Outputs::new(alloc, devices)?;
-    let mut x = [0; 32];
-    x[2] = pointer;
+    let mut regs = Regs::starting_at(elf.entry);
+    regs.set_register(2, pointer);
     Ok(State {
-        host: Host {
-            memory,
-            held,
-            outputs,
-            pending: Pending::new(),
-            clock: 0,
+        system: System {
+            host: Host {
+                pages,
+                held,
+                outputs,
+                pending: Pending::new(),
+                program_break: Break::behind(elf.top),
+                drawn: FIRST_RANDOM,
+                clock: 0,
+            },
             end: None,
         },
         thread: Thread {
             id: FIRST_THREAD,
-            regs: Regs { pc: elf.entry, x },
+            regs,
             place: Place::Loop,
             flag: false,
         },
@@ -152,7 +139,7 @@ fn memory_of(
 fn add_trampoline(alloc: Global, memory: &mut Pages) -> Result<(), AllocError>
     ensures { OnOk result (memory.new ≡ with_trampoline memory.old) }
 {
-    if memory.map(alloc, TRAMPOLINE, 1, BEING_WRITTEN).is_err() {
+    if memory.map(alloc, TRAMPOLINE, 1, CHANGEABLE).is_err() {
         return Err(AllocError);
     }
     if memory.copy_in(TRAMPOLINE, &TRAMPOLINE_BYTES).is_err() {

@@ -35,13 +35,12 @@ fn a_run_up_to_its_end(rt: HostRuntime) -> Result<(), Fail> {
     assert_eq!(rt; core.event(&STEP), Ok(()));
     match core.regs(FIRST_THREAD) {
         Some(regs) => {
-            assert_eq!(rt; regs.pc, 0x1007C);
+            assert_eq!(rt; regs.pc(), 0x1007C);
             assert_eq!(rt; regs.register(10), 7);
         }
         None => assert!(rt; false),
     }
     assert!(rt; core.regs(1001).is_none());
-    assert_eq!(rt; core.lengthens(&STEP), None);
     assert_eq!(rt; core.run_events(&[STEP, STEP, STEP]), Ok(()));
     assert!(rt; core.ended().is_none());
     // the fifth step ends the process, and the sixth isn't enabled
@@ -57,14 +56,6 @@ fn a_run_up_to_its_end(rt: HostRuntime) -> Result<(), Fail> {
 }
 
 #[test]
-fn a_call_has_its_number(rt: HostRuntime) -> Result<(), Fail> {
-    assert_eq!(rt; call_of(64), Some(CallNo::Write));
-    assert_eq!(rt; call_of(94), Some(CallNo::ExitGroup));
-    assert_eq!(rt; call_of(65), None);
-    Ok(())
-}
-
-#[test]
 fn a_run_ahead_stops_before_the_call(rt: HostRuntime) -> Result<(), Fail> {
     let mut core = started(rt.alloc())?;
     assert_eq!(rt; core.run_on(1001, 10), 0);
@@ -72,7 +63,7 @@ fn a_run_ahead_stops_before_the_call(rt: HostRuntime) -> Result<(), Fail> {
     assert_eq!(rt; core.run_on(FIRST_THREAD, 10), 1);
     match core.regs(FIRST_THREAD) {
         Some(regs) => {
-            assert_eq!(rt; regs.pc, 0x10080);
+            assert_eq!(rt; regs.pc(), 0x10080);
             assert_eq!(rt; regs.register(10), 7);
             assert_eq!(rt; regs.register(17), 94);
         }

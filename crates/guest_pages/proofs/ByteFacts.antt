@@ -1,12 +1,11 @@
 -- The bytes of a range of addresses.
 use Rattle.std.proofs.Common.{◌≡◌, ℕ, zero, suc, ◌+◌, ◌/◌, ◌%◌, ◌^◌, ◌<◌, ◌≤◌, Bool, true, false, if◌then◌else◌, not, ◌&&◌, ◌||◌, List, ◌∷◌, ◌++◌, length, take, drop, get_or, Option, Some, None, Result, Ok, refl, sym, ap, ◌∙◌, arith}
-use Rattle.std.specs.declared.alloc.Global.{Global}
-use Rattle.std.specs.declared.vec.Vec.{Vec}
 use Rattle.std.proofs.lemmas.List.{drop_more}
 use Rattle.byteorder.specs.Endian.{little_number}
 use Rattle.guest_pages.specs.declared.rights.Rights.{Rights}
 use Rattle.guest_pages.specs.declared.fault.PageFault.{PageFault}
 use Rattle.guest_pages.specs.declared.page.Page.{Page}
+use Rattle.guest_pages.specs.declared.page.Table.{Table}
 use Rattle.guest_pages.specs.declared.page.Page.TheVariants.{Absent, Bare, Held}
 use Rattle.guest_pages.specs.Cells.{include, has_none}
 use Rattle.guest_pages.specs.Faults.{first_fault, answer_or}
@@ -103,7 +102,7 @@ held_good needed Absent bytes address h = cc
 held_good needed Bare bytes address h = cc
 held_good needed (Held rights value) bytes address h = ok_fault (include rights needed) value.value bytes _ h
 
-pub page_bytes : (needed : Rights) (tables : List (Vec Page Global)) (at n : ℕ) (bytes : List ℕ) → length tables ≤ 8192 → has_none needed ≡ false → held_in needed (page_at tables (at / 4096)) ≡ Some bytes → length bytes ≡ 4096 → at % 4096 + n ≤ 4096 → bytes_at (held tables) at n ≡ take n (drop (at % 4096) bytes)
+pub page_bytes : (needed : Rights) (tables : List Table) (at n : ℕ) (bytes : List ℕ) → length tables ≤ 8192 → has_none needed ≡ false → held_in needed (page_at tables (at / 4096)) ≡ Some bytes → length bytes ≡ 4096 → at % 4096 + n ≤ 4096 → bytes_at (held tables) at n ≡ take n (drop (at % 4096) bytes)
 unfolding cells
 page_bytes needed tables at n bytes small some found size room =
     bytes_run (held tables) at n bytes (at % 4096)
@@ -117,7 +116,7 @@ page_bytes needed tables at n bytes small some found size room =
     (omega arith)
 
 -- a load of bytes that lie in one page
-pub load_near : (needed : Rights) (tables : List (Vec Page Global)) (at n : ℕ) (bytes : List ℕ) → length tables ≤ 8192 → has_none needed ≡ false → held_in needed (page_at tables (at / 4096)) ≡ Some bytes → length bytes ≡ 4096 → at % 4096 + n ≤ 4096 → answer_or (first_fault needed (held tables) at n) (little_number n (bytes_at (held tables) at n)) ≡ Ok (little_number n (take n (drop (at % 4096) bytes)))
+pub load_near : (needed : Rights) (tables : List Table) (at n : ℕ) (bytes : List ℕ) → length tables ≤ 8192 → has_none needed ≡ false → held_in needed (page_at tables (at / 4096)) ≡ Some bytes → length bytes ≡ 4096 → at % 4096 + n ≤ 4096 → answer_or (first_fault needed (held tables) at n) (little_number n (bytes_at (held tables) at n)) ≡ Ok (little_number n (take n (drop (at % 4096) bytes)))
 load_near needed tables at n bytes small some found size room =
     ap (λ (o : Option PageFault). answer_or o (little_number n (bytes_at (held tables) at n)))
     (page_good needed tables at n small (held_good needed (page_at tables (at / 4096)) bytes at found) room)
@@ -141,12 +140,12 @@ good_held needed Bare address some good absent =
 good_held needed (Held rights bytes) address some good absent = one_or_other (include rights needed) bytes.value _ good absent
 
 -- where a range is good, so is the page that it begins in
-pub good_page : (needed : Rights) (tables : List (Vec Page Global)) (at n : ℕ) → length tables ≤ 8192 → 0 < n → first_fault needed (held tables) at n ≡ None → fault_in needed (page_at tables (at / 4096)) at ≡ None
+pub good_page : (needed : Rights) (tables : List Table) (at n : ℕ) → length tables ≤ 8192 → 0 < n → first_fault needed (held tables) at n ≡ None → fault_in needed (page_at tables (at / 4096)) at ≡ None
 good_page needed tables at n small some good =
     sym (fault_here needed tables at small) ∙ good_at needed (held tables) at n at good (omega arith) (omega arith)
 
 -- a good range lies in user memory
-pub good_range : (needed : Rights) (tables : List (Vec Page Global)) (at n i : ℕ) → length tables ≤ 8192 → first_fault needed (held tables) at n ≡ None → i < n → at + i < 2 ^ 38
+pub good_range : (needed : Rights) (tables : List Table) (at n i : ℕ) → length tables ≤ 8192 → first_fault needed (held tables) at n ≡ None → i < n → at + i < 2 ^ 38
 good_range needed tables at n i small good below =
     good_below needed tables (at + i) small
     (sym (fault_here needed tables (at + i) small) ∙ good_at needed (held tables) at n (at + i) good (omega arith) (omega arith))

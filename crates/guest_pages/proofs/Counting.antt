@@ -1,10 +1,9 @@
 -- The number of pages that are stored, counted page by page.
 use Rattle.std.proofs.Common.{◌≡◌, ◌⊎◌, ℕ, zero, suc, ◌+◌, ◌-◌, ◌*◌, ◌/◌, ◌%◌, ◌^◌, ◌<◌, ◌≤◌, Bool, true, false, not, ◌&&◌, ◌==◌, if◌then◌else◌, List, [], ◌∷◌, Option, Some, None, inl, inr, refl, sym, ap, subst, ◌∙◌, arith, eq-eqb}
 use Rattle.std.proofs.lemmas.Bool.{cases_eq}
-use Rattle.std.specs.declared.alloc.Global.{Global}
-use Rattle.std.specs.declared.vec.Vec.{Vec}
 use Rattle.guest_pages.specs.declared.rights.Rights.{Rights}
 use Rattle.guest_pages.specs.declared.page.Page.{Page}
+use Rattle.guest_pages.specs.declared.page.Table.{Table}
 use Rattle.guest_pages.specs.declared.page.Page.TheVariants.{Absent, Bare, Held}
 use Rattle.guest_pages.specs.Cells.{Cell, has_none, same_bool, same_rights}
 use Rattle.guest_pages.specs.Counting.{rights_of, some_right, one_if, count_pages}
@@ -247,7 +246,7 @@ page_rights Absent a b = refl
 page_rights Bare a b = refl
 page_rights (Held rights bytes) a b = refl
 
-pub tables_paged : (tables : List (Vec Page Global)) → IsPaged (cells tables)
+pub tables_paged : (tables : List Table) → IsPaged (cells tables)
 unfolding cells
 tables_paged tables a b same =
     page_rights (page_at tables (a / 4096)) (a % 4096) (b % 4096)

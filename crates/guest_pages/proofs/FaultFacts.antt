@@ -1,12 +1,11 @@
 -- The least bad address of a range of addresses.
 use Rattle.std.proofs.Common.{◌≡◌, ℕ, zero, suc, ◌+◌, ◌-◌, ◌/◌, ◌%◌, ◌^◌, ◌<◌, ◌≤◌, Bool, true, false, if◌then◌else◌, List, length, Option, Some, None, inl, inr, refl, sym, ap, ◌∙◌, arith}
-use Rattle.std.specs.declared.alloc.Global.{Global}
-use Rattle.std.specs.declared.vec.Vec.{Vec}
 use Rattle.std.proofs.lemmas.Bool.{cases_lt, cases_eq}
 use Rattle.guest_pages.specs.declared.rights.Rights.{Rights}
 use Rattle.guest_pages.specs.declared.fault.PageFault.{PageFault}
 use Rattle.guest_pages.specs.declared.fault.PageFault.TheVariants.{NoAccess}
 use Rattle.guest_pages.specs.declared.page.Page.{Page}
+use Rattle.guest_pages.specs.declared.page.Table.{Table}
 use Rattle.guest_pages.specs.declared.page.Page.TheVariants.{Absent, Bare, Held}
 use Rattle.guest_pages.specs.Cells.{include}
 use Rattle.guest_pages.specs.Faults.{fault_of, fault_or, first_fault}
@@ -85,7 +84,7 @@ fault_moves needed Bare a b h = unless_moves (include nothing needed) a b h
 fault_moves needed (Held rights bytes) a b h = unless_moves (include rights needed) a b h
 
 -- the page of an address is good, so are the addresses after it in the page
-pub page_good : (needed : Rights) (tables : List (Vec Page Global)) (at n : ℕ) → length tables ≤ 8192 → fault_in needed (page_at tables (at / 4096)) at ≡ None → at % 4096 + n ≤ 4096 → first_fault needed (held tables) at n ≡ None
+pub page_good : (needed : Rights) (tables : List Table) (at n : ℕ) → length tables ≤ 8192 → fault_in needed (page_at tables (at / 4096)) at ≡ None → at % 4096 + n ≤ 4096 → first_fault needed (held tables) at n ≡ None
 page_good needed tables at n small good room =
     fault_none needed (held tables) at n (λ i low high.
     let p : i / 4096 ≡ at / 4096 = omega arith in
@@ -93,7 +92,7 @@ page_good needed tables at n small good room =
     ∙ (ap (λ (q : ℕ). fault_in needed (page_at tables q) i) p ∙ fault_moves needed (page_at tables (at / 4096)) at i good))
 
 -- a good address is one of user memory
-pub good_below : (needed : Rights) (tables : List (Vec Page Global)) (at : ℕ) → length tables ≤ 8192 → fault_in needed (page_at tables (at / 4096)) at ≡ None → at < 2 ^ 38
+pub good_below : (needed : Rights) (tables : List Table) (at : ℕ) → length tables ≤ 8192 → fault_in needed (page_at tables (at / 4096)) at ≡ None → at < 2 ^ 38
 good_below needed tables at small good =
     elim (cases_lt at (2 ^ 38)) [
       | inl below ↦ below
@@ -104,12 +103,12 @@ good_below needed tables at small good =
     ]
 
 -- the page of an address is bad
-pub page_bad : (needed : Rights) (tables : List (Vec Page Global)) (at n : ℕ) (fault : PageFault) → length tables ≤ 8192 → 0 < n → fault_in needed (page_at tables (at / 4096)) at ≡ Some fault → first_fault needed (held tables) at n ≡ Some fault
+pub page_bad : (needed : Rights) (tables : List Table) (at n : ℕ) (fault : PageFault) → length tables ≤ 8192 → 0 < n → fault_in needed (page_at tables (at / 4096)) at ≡ Some fault → first_fault needed (held tables) at n ≡ Some fault
 page_bad needed tables at n fault small some bad =
     fault_first needed (held tables) at n fault some (fault_here needed tables at small ∙ bad)
 
 -- on to the next page
-pub page_next : (needed : Rights) (tables : List (Vec Page Global)) (at left : ℕ) → length tables ≤ 8192 → fault_in needed (page_at tables (at / 4096)) at ≡ None → 4096 - at % 4096 ≤ left → first_fault needed (held tables) at left ≡ first_fault needed (held tables) (at + (4096 - at % 4096)) (left - (4096 - at % 4096))
+pub page_next : (needed : Rights) (tables : List Table) (at left : ℕ) → length tables ≤ 8192 → fault_in needed (page_at tables (at / 4096)) at ≡ None → 4096 - at % 4096 ≤ left → first_fault needed (held tables) at left ≡ first_fault needed (held tables) (at + (4096 - at % 4096)) (left - (4096 - at % 4096))
 page_next needed tables at left small good more =
     let room : ℕ = 4096 - at % 4096 in
     let p : left ≡ (4096 - at % 4096) + (left - (4096 - at % 4096)) = omega arith in

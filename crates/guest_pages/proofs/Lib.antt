@@ -1,11 +1,15 @@
+pub mod ApartFacts
+pub mod BitFacts
 pub mod ByteFacts
+pub mod CellFacts
 pub mod Counting
 pub mod FaultFacts
+pub mod FindingFacts
 pub mod MapFacts
 pub mod PageFacts
 pub mod RangeFacts
 pub mod Reading
-pub mod TableFacts
 pub mod RightsFacts
+pub mod TableFacts
 pub mod UnmappedFacts
 pub mod WriteFacts

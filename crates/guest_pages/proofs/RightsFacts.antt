@@ -11,6 +11,12 @@ within_inside start length address low high = grind (arith, common_steps)
 pub within_outside : (start length address : ℕ) → (address < start) ⊎ (start + length ≤ address) → within start length address ≡ false
 within_outside start length address out = grind (arith, common_steps)
 
+pub within_low : (start length address : ℕ) → within start length address ≡ true → start ≤ address
+within_low start length address here = grind (arith, common_steps)
+
+pub within_high : (start length address : ℕ) → within start length address ≡ true → address < start + length
+within_high start length address here = grind (arith, common_steps)
+
 pub both_left : (x y : Bool) → (x && y) ≡ true → x ≡ true
 both_left true y h = refl
 both_left false y h = h

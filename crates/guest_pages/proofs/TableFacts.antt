@@ -1,10 +1,9 @@
 -- What stands at an address of the memory that tables hold.
 use Rattle.std.proofs.Common.{◌≡◌, ℕ, zero, suc, ◌+◌, ◌/◌, ◌%◌, ◌^◌, ◌≤◌, Bool, true, false, if◌then◌else◌, List, [], ◌∷◌, length, get_or, Option, Some, None, slice_get, refl, ap, ◌∙◌, arith}
-use Rattle.std.specs.declared.alloc.Global.{Global}
-use Rattle.std.specs.declared.vec.Vec.{Vec}
 use mathlib.Core.Path.{fun_ext}
 use Rattle.guest_pages.specs.declared.rights.Rights.{Rights}
 use Rattle.guest_pages.specs.declared.page.Page.{Page}
+use Rattle.guest_pages.specs.declared.page.Table.{Table}
 use Rattle.guest_pages.specs.declared.page.Page.TheVariants.{Absent, Bare, Held}
 use Rattle.guest_pages.specs.Cells.{Cell, cell, has_none}
 use Rattle.guest_pages.specs.Faults.{fault_of}
@@ -28,25 +27,25 @@ page_kept Absent place = tt
 page_kept Bare place = refl
 page_kept (Held rights bytes) place = cell_kept rights (get_or bytes.value place 0)
 
-pub cells_kept : (tables : List (Vec Page Global)) (address : ℕ) → IsKept (cells tables address)
+pub cells_kept : (tables : List Table) (address : ℕ) → IsKept (cells tables address)
 unfolding cells
 cells_kept tables address = page_kept (page_at tables (address / 4096)) (address % 4096)
 
-slice_get_past : (xs : List (Vec Page Global)) (i : ℕ) → length xs ≤ i → slice_get xs i ≡ None
+slice_get_past : (xs : List Table) (i : ℕ) → length xs ≤ i → slice_get xs i ≡ None
 slice_get_past [] i past = refl
 slice_get_past (x ∷ xs) zero past = absurd (omega arith)
 slice_get_past (x ∷ xs) (suc i) past = slice_get_past xs i (omega arith)
 
-pub page_past : (tables : List (Vec Page Global)) (number : ℕ) → length tables ≤ number / 8192 → page_at tables number ≡ Absent
+pub page_past : (tables : List Table) (number : ℕ) → length tables ≤ number / 8192 → page_at tables number ≡ Absent
 unfolding page_at
-page_past tables number past = ap (λ (o : Option (Vec Page Global)). page_in o (number % 8192)) (slice_get_past tables (number / 8192) past)
+page_past tables number past = ap (λ (o : Option Table). page_in o (number % 8192)) (slice_get_past tables (number / 8192) past)
 
-pub cells_past : (tables : List (Vec Page Global)) (address : ℕ) → length tables ≤ 8192 → 2 ^ 38 ≤ address → cells tables address ≡ None
+pub cells_past : (tables : List Table) (address : ℕ) → length tables ≤ 8192 → 2 ^ 38 ≤ address → cells tables address ≡ None
 unfolding cells
 cells_past tables address small past = ap (λ (p : Page). cell_in p (address % 4096)) (page_past tables (address / 4096) (omega arith))
 
 -- what stands at an address of the memory is its cell
-pub cell_at_held : (tables : List (Vec Page Global)) (address : ℕ) → length tables ≤ 8192 → cell_at (held tables) address ≡ cells tables address
+pub cell_at_held : (tables : List Table) (address : ℕ) → length tables ≤ 8192 → cell_at (held tables) address ≡ cells tables address
 unfolding held
 cell_at_held tables address small = reads_back (cells tables) address (cells_kept tables) (λ k past. cells_past tables k small past)
 
@@ -69,7 +68,7 @@ fault_is needed Absent address = refl
 fault_is needed Bare address = refl
 fault_is needed (Held rights bytes) address = refl
 
-pub fault_here : (needed : Rights) (tables : List (Vec Page Global)) (address : ℕ) → length tables ≤ 8192 → fault_of needed address (cell_at (held tables) address) ≡ fault_in needed (page_at tables (address / 4096)) address
+pub fault_here : (needed : Rights) (tables : List Table) (address : ℕ) → length tables ≤ 8192 → fault_of needed address (cell_at (held tables) address) ≡ fault_in needed (page_at tables (address / 4096)) address
 unfolding cells
 fault_here needed tables address small =
     ap (fault_of needed address) (cell_at_held tables address small) ∙ fault_is needed (page_at tables (address / 4096)) address

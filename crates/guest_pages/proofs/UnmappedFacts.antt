@@ -1,17 +1,13 @@
 -- The least address that is not mapped.
-use Rattle.std.proofs.Common.{◌≡◌, ℕ, zero, suc, ◌+◌, ◌*◌, ◌/◌, ◌%◌, ◌<◌, ◌≤◌, List, [], ◌∷◌, length, Option, Some, None, Result, Ok, Err, inl, inr, refl, sym, ap, ◌∙◌, arith, slice_get, get_or}
-use Rattle.std.specs.declared.alloc.Global.{Global}
-use Rattle.std.specs.declared.vec.Vec.{Vec}
-use Rattle.std.proofs.lemmas.Bool.{cases_lt, cases_eq}
+use Rattle.std.proofs.Common.{◌≡◌, ℕ, zero, suc, ◌+◌, ◌*◌, ◌/◌, ◌%◌, ◌<◌, ◌≤◌, List, length, Option, Some, None, Result, Ok, Err, inl, inr, refl, sym, ap, ◌∙◌, arith}
+use Rattle.std.proofs.lemmas.Bool.{cases_eq}
 use Rattle.guest_pages.specs.declared.fault.PageFault.{PageFault}
 use Rattle.guest_pages.specs.declared.fault.PageFault.TheVariants.{NotMapped, NoAccess}
-use Rattle.guest_pages.specs.declared.page.Page.{Page}
-use Rattle.guest_pages.specs.declared.page.Page.TheVariants.{Absent}
+use Rattle.guest_pages.specs.declared.page.Table.{Table}
 use Rattle.guest_pages.specs.Cells.{Cell}
 use Rattle.guest_pages.specs.Faults.{fault_of, fault_or, first_fault, answer_or, first_unmapped, unmapped_or}
-use Rattle.guest_pages.specs.Mapping.{room_of, HasRoom}
 use Rattle.guest_pages.specs.Ranges.{Range, cell_at}
-use Rattle.guest_pages.specs.Tables.{cell_in, page_in, page_at, cells, held, nothing}
+use Rattle.guest_pages.specs.Tables.{cells, held, nothing}
 use Rattle.guest_pages.proofs.TableFacts.{cell_at_held}
 
 fault_from : Option ℕ → Option PageFault
@@ -82,29 +78,6 @@ mapped_at memory at (suc n) i none low high =
       | inr other ↦ mapped_at memory (at + 1) n i both.1 (omega arith) (omega arith)
     ]
 
-pub mapped_cells : (tables : List (Vec Page Global)) (at count : ℕ) → length tables ≤ 8192 → at % 4096 ≡ 0 → first_unmapped (held tables) at (4096 * count) ≡ None → (q : ℕ) → at / 4096 ≤ q → q < at / 4096 + count → cells tables (4096 * q) ≡ None → ⊥
+pub mapped_cells : (tables : List Table) (at count : ℕ) → length tables ≤ 8192 → at % 4096 ≡ 0 → first_unmapped (held tables) at (4096 * count) ≡ None → (q : ℕ) → at / 4096 ≤ q → q < at / 4096 + count → cells tables (4096 * q) ≡ None → ⊥
 mapped_cells tables at count small aligned none q low high absent =
     mapped_at (held tables) at (4096 * count) (4096 * q) none (omega arith) (omega arith) (cell_at_held tables (4096 * q) small ∙ absent)
-
-absent_cell : (page : Page) (place : ℕ) → page ≡ Absent → cell_in page place ≡ None
-absent_cell page place absent = ap (λ (p : Page). cell_in p place) absent
-
-get_past : (pages : List Page) (i : ℕ) → length pages ≤ i → get_or pages i Absent ≡ Absent
-get_past [] i past = refl
-get_past (x ∷ xs) zero past = absurd (omega arith)
-get_past (x ∷ xs) (suc i) past = get_past xs i (omega arith)
-
-no_room : (o : Option (Vec Page Global)) (place : ℕ) → room_of o ≤ place → page_in o place ≡ Absent
-no_room None place past = refl
-no_room (Some table) place past = get_past table.items place past
-
--- a page that is mapped has room
-pub mapped_room : (tables : List (Vec Page Global)) (q : ℕ) → (cells tables (4096 * q) ≡ None → ⊥) → HasRoom tables q
-unfolding HasRoom cells page_at
-mapped_room tables q mapped =
-    elim (cases_lt (q % 8192) (room_of (slice_get tables (q / 8192)))) [
-      | inl low ↦ low
-      | inr past ↦
-          let e : 4096 * q / 4096 ≡ q = omega arith in
-          absurd (mapped (absent_cell _ (4096 * q % 4096) (ap (page_at tables) e ∙ no_room (slice_get tables (q / 8192)) (q % 8192) past)))
-    ]

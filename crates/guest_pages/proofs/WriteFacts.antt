@@ -1,16 +1,17 @@
 -- Writes that follow one another, and what a write leaves.
-use Rattle.std.proofs.Common.{◌≡◌, ℕ, ◌+◌, ◌-◌, ◌/◌, ◌%◌, ◌<◌, ◌≤◌, Bool, true, false, if◌then◌else◌, List, length, get_or, take, drop, Option, Some, None, is_some, inl, inr, refl, sym, ap, ◌∙◌, arith, length-take, length-drop, w64}
-use Rattle.std.specs.declared.alloc.Global.{Global}
-use Rattle.std.specs.declared.vec.Vec.{Vec}
+use Rattle.std.proofs.Common.{◌≡◌, ℕ, ◌+◌, ◌-◌, ◌*◌, ◌/◌, ◌%◌, ◌<◌, ◌≤◌, Bool, true, false, if◌then◌else◌, List, length, get_or, take, drop, Option, Some, None, is_some, inl, inr, refl, sym, ap, ◌∙◌, arith, length-take, length-drop, w64}
 use Rattle.std.proofs.lemmas.Bool.{cases_lt}
 use Rattle.std.proofs.lemmas.List.{get_or-take, get_or-drop}
 use Rattle.guest_pages.specs.declared.page.Page.{Page}
+use Rattle.guest_pages.specs.declared.page.Page.TheVariants.{Absent, Bare, Held}
+use Rattle.guest_pages.specs.declared.page.Table.{Table}
 use Rattle.guest_pages.specs.Cells.{Cell}
 use Rattle.guest_pages.specs.Counting.{rights_of}
 use Rattle.guest_pages.specs.Faults.{fault_of, first_fault, writable}
 use Rattle.guest_pages.specs.Operations.{with_byte, written, stored_pages}
 use Rattle.guest_pages.specs.Ranges.{within}
-use Rattle.guest_pages.specs.Tables.{held_in, page_at, cells, held, IsSound}
+use Rattle.guest_pages.specs.Tables.{cell_in, held_in, is_present, mark_at, page_at, cells, held, AreMarked, IsSound}
+use Rattle.guest_pages.specs.Finding.{is_mapped}
 use Rattle.guest_pages.specs.Writes.{with_bytes}
 use Rattle.std.specs.Int.{to_le_bytes}
 use Rattle.byteorder.specs.Endian.{little_bytes}
@@ -72,7 +73,7 @@ some_or None never = absurd (never refl)
 some_or (Some x) never = refl
 
 -- an address past the bytes that were written, in a range that could be written, can be written
-pub still_good : (tables tables-2 : List (Vec Page Global)) (at done size : ℕ) (bytes : List ℕ) → length tables ≤ 8192 → first_fault writable (held tables) at size ≡ None → done < size → length bytes ≡ done → ((a : ℕ) → cells tables-2 a ≡ with_bytes at bytes (cells tables) a) → is_some (held_in writable (page_at tables-2 ((at + done) / 4096))) ≡ true
+pub still_good : (tables tables-2 : List Table) (at done size : ℕ) (bytes : List ℕ) → length tables ≤ 8192 → first_fault writable (held tables) at size ≡ None → done < size → length bytes ≡ done → ((a : ℕ) → cells tables-2 a ≡ with_bytes at bytes (cells tables) a) → is_some (held_in writable (page_at tables-2 ((at + done) / 4096))) ≡ true
 unfolding cells
 still_good tables tables-2 at done size bytes small good below full now =
     let place : ℕ = at + done in
@@ -82,12 +83,12 @@ still_good tables tables-2 at done size bytes small good below full now =
     some_or _ (good_held writable (page_at tables-2 ((at + done) / 4096)) (at + done) refl after)
 
 -- the memory that is written, by its cells
-pub written_held : (tables tables-2 : List (Vec Page Global)) (at : ℕ) (bytes : List ℕ) → length tables ≤ 8192 → ((a : ℕ) → cells tables-2 a ≡ with_bytes at bytes (cells tables) a) → held tables-2 ≡ written at bytes (held tables)
+pub written_held : (tables tables-2 : List Table) (at : ℕ) (bytes : List ℕ) → length tables ≤ 8192 → ((a : ℕ) → cells tables-2 a ≡ with_bytes at bytes (cells tables) a) → held tables-2 ≡ written at bytes (held tables)
 unfolding held written with_bytes
 written_held tables tables-2 at bytes small same =
     same_ranges (cells tables-2) _ (λ a. same a ∙ ap (λ (o : Option Cell). if within at (length bytes) a then with_byte (get_or bytes (a - at) 0) o else o) (sym (cell_at_held tables a small)))
 
-pub same_held : (tables tables-2 : List (Vec Page Global)) → ((a : ℕ) → cells tables-2 a ≡ cells tables a) → held tables-2 ≡ held tables
+pub same_held : (tables tables-2 : List Table) → ((a : ℕ) → cells tables-2 a ≡ cells tables a) → held tables-2 ≡ held tables
 unfolding held
 same_held tables tables-2 same = same_ranges (cells tables-2) (cells tables) same
 
@@ -104,19 +105,63 @@ unfolding with_bytes
 bytes_rights at bytes f a = choice_rights (within at (length bytes) a) (get_or bytes (a - at) 0) (f a)
 
 -- a write stores as many pages
-pub written_stored : (tables tables-2 : List (Vec Page Global)) (at : ℕ) (bytes : List ℕ) → ((a : ℕ) → cells tables-2 a ≡ with_bytes at bytes (cells tables) a) → stored_pages (held tables-2) ≡ stored_pages (held tables)
+pub written_stored : (tables tables-2 : List Table) (at : ℕ) (bytes : List ℕ) → ((a : ℕ) → cells tables-2 a ≡ with_bytes at bytes (cells tables) a) → stored_pages (held tables-2) ≡ stored_pages (held tables)
 unfolding held
 written_stored tables tables-2 at bytes same =
     stored_same (cells tables-2) (cells tables) (tables_paged tables-2) (tables_paged tables) (λ a. ap rights_of (same a) ∙ bytes_rights at bytes (cells tables) a)
 
 -- what a write leaves is sound
-pub sound_written : (tables tables-2 : List (Vec Page Global)) (stored at : ℕ) (bytes : List ℕ) → IsSound tables stored → length tables-2 ≡ length tables → ((a : ℕ) → cells tables-2 a ≡ with_bytes at bytes (cells tables) a) → IsSound tables-2 stored
-sound_written tables tables-2 stored at bytes sound size same =
-    record { small = omega arith; counted = sound.counted ∙ sym (written_stored tables tables-2 at bytes same) }
+mapped_page : (page : Page) (place : ℕ) → is_mapped (cell_in page place) ≡ is_present page
+mapped_page Absent place = refl
+mapped_page Bare place = refl
+mapped_page (Held rights bytes) place = refl
 
-pub sound_same : (tables tables-2 : List (Vec Page Global)) (stored : ℕ) → IsSound tables stored → length tables-2 ≡ length tables → ((a : ℕ) → cells tables-2 a ≡ cells tables a) → IsSound tables-2 stored
-sound_same tables tables-2 stored sound size same =
-    record { small = omega arith; counted = sound.counted ∙ sym (ap stored_pages (same_held tables tables-2 same)) }
+present_is : (tables : List Table) (n : ℕ) → is_present (page_at tables n) ≡ is_mapped (cells tables (4096 * n))
+unfolding cells
+present_is tables n =
+    let e : n ≡ 4096 * n / 4096 = omega arith in
+    ap (λ (k : ℕ). is_present (page_at tables k)) e ∙ sym (mapped_page (page_at tables (4096 * n / 4096)) (4096 * n % 4096))
+
+-- the marks are right, where they are those of the cells
+pub marked_by : (tables : List Table) → ((n : ℕ) → mark_at tables n ≡ is_mapped (cells tables (4096 * n))) → AreMarked tables
+marked_by tables same = λ n. same n ∙ sym (present_is tables n)
+
+pub marked_is : (tables : List Table) → AreMarked tables → (n : ℕ) → mark_at tables n ≡ is_mapped (cells tables (4096 * n))
+marked_is tables marked = λ n. marked n ∙ present_is tables n
+
+-- where no address is mapped or is not any more
+pub marked_same : (tables tables-2 : List Table) → AreMarked tables → ((n : ℕ) → mark_at tables-2 n ≡ mark_at tables n) → ((a : ℕ) → is_mapped (cells tables-2 a) ≡ is_mapped (cells tables a)) → AreMarked tables-2
+marked_same tables tables-2 marked marks same =
+    marked_by tables-2 (λ n. marks n ∙ (marked_is tables marked n ∙ sym (same (4096 * n))))
+
+byte_mapped : (byte : ℕ) (o : Option Cell) → is_mapped (with_byte byte o) ≡ is_mapped o
+byte_mapped byte None = refl
+byte_mapped byte (Some c) = refl
+
+pub either_mapped : (b : Bool) (x y : Option Cell) → is_mapped x ≡ is_mapped y → is_mapped (if b then x else y) ≡ is_mapped y
+either_mapped true x y same = same
+either_mapped false x y same = refl
+
+bytes_mapped : (at : ℕ) (bytes : List ℕ) (f : ℕ → Option Cell) (a : ℕ) → is_mapped (with_bytes at bytes f a) ≡ is_mapped (f a)
+unfolding with_bytes
+bytes_mapped at bytes f a = either_mapped (within at (length bytes) a) _ (f a) (byte_mapped (get_or bytes (a - at) 0) (f a))
+
+pub sound_written : (tables tables-2 : List Table) (stored at : ℕ) (bytes : List ℕ) → IsSound tables stored → length tables-2 ≡ length tables → ((n : ℕ) → mark_at tables-2 n ≡ mark_at tables n) → ((a : ℕ) → cells tables-2 a ≡ with_bytes at bytes (cells tables) a) → IsSound tables-2 stored
+sound_written tables tables-2 stored at bytes sound size marks same =
+    let small = sound.small in
+    record {
+      small = omega arith;
+      marked = marked_same tables tables-2 sound.marked marks (λ a. ap is_mapped (same a) ∙ bytes_mapped at bytes (cells tables) a);
+      counted = sound.counted ∙ sym (written_stored tables tables-2 at bytes same);
+    }
+
+pub sound_same : (tables tables-2 : List Table) (stored : ℕ) → IsSound tables stored → (length tables ≤ 8192 → length tables-2 ≤ 8192) → ((n : ℕ) → mark_at tables-2 n ≡ mark_at tables n) → ((a : ℕ) → cells tables-2 a ≡ cells tables a) → IsSound tables-2 stored
+sound_same tables tables-2 stored sound size marks same =
+    record {
+      small = size sound.small;
+      marked = marked_same tables tables-2 sound.marked marks (λ a. ap is_mapped (same a));
+      counted = sound.counted ∙ sym (ap stored_pages (same_held tables tables-2 same));
+    }
 
 -- the first bytes of a number are its lowest
 pub low_bytes_of : (width : Width) (value : ℕ) → take (size_of width) (to_le_bytes w64 value) ≡ little_bytes (size_of width) value
@@ -133,7 +178,7 @@ is_some_value None h = absurd (false_true h)
 is_some_value (Some x) h = (x, refl)
 
 -- a page that was written was good
-pub near_good : (tables : List (Vec Page Global)) (at n : ℕ) → length tables ≤ 8192 → at % 4096 + n ≤ 4096 → is_some (held_in writable (page_at tables (at / 4096))) ≡ true → first_fault writable (held tables) at n ≡ None
+pub near_good : (tables : List Table) (at n : ℕ) → length tables ≤ 8192 → at % 4096 + n ≤ 4096 → is_some (held_in writable (page_at tables (at / 4096))) ≡ true → first_fault writable (held tables) at n ≡ None
 near_good tables at n small room done =
     let found = is_some_value (held_in writable (page_at tables (at / 4096))) done in
     page_good writable tables at n small (held_good writable (page_at tables (at / 4096)) found.0 at found.1) room

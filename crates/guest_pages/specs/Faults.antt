@@ -17,6 +17,14 @@ writable = record { read = false; write = true; execute = false }
 abbrev pub executable : Rights
 executable = record { read = false; write = false; execute = true }
 
+-- to read and to write
+abbrev pub changeable : Rights
+changeable = record { read = true; write = true; execute = false }
+
+-- to read and to execute
+abbrev pub runnable : Rights
+runnable = record { read = true; write = false; execute = true }
+
 -- what is wrong with one address
 abbrev pub fault_of : Rights → ℕ → Option Cell → Option PageFault
 fault_of needed address None = Some (NotMapped address)

@@ -1,8 +1,13 @@
+pub mod Apart
+pub mod Bits
 pub mod Cells
 pub mod Counting
 pub mod Faults
+pub mod Finding
+pub mod Limits
 pub mod Mapping
 pub mod Operations
+pub mod Random
 pub mod Ranges
 pub mod Sizes
 pub mod Tables

@@ -1,6 +1,6 @@
 -- What the operations on memory read and leave, each told by what then stands at each address.
--- Source: mmap(2), mprotect(2). That no more than 65,536 pages are stored is the project's own.
-use Rattle.std.specs.Prelude.{ℕ, zero, suc, ◌+◌, ◌-◌, ◌/◌, if◌then◌else◌, List, [], ◌∷◌, get_or, length, Option, Some, None}
+-- Source: mmap(2), munmap(2), mprotect(2). That no more than 65,536 pages are stored is the project's own.
+use Rattle.std.specs.Prelude.{ℕ, zero, suc, ◌+◌, ◌-◌, ◌/◌, true, false, if◌then◌else◌, List, [], ◌∷◌, get_or, length, Option, Some, None}
 use Rattle.guest_pages.specs.declared.rights.Rights.{Rights}
 use Rattle.guest_pages.specs.Cells.{Cell, cell, has_none}
 use Rattle.guest_pages.specs.Ranges.{Range, within, cell_at, ranges_of}
@@ -18,6 +18,11 @@ bytes_at memory address (suc count) = byte_of (cell_at memory address) ∷ bytes
 unfoldable pub placed : ℕ → ℕ → Rights → List Range → List Range
 placed start count rights memory =
     ranges_of (λ address. if within start count address then Some (cell rights 0) else cell_at memory address)
+
+-- nothing, in place of what was there
+unfoldable pub unmapped : ℕ → ℕ → List Range → List Range
+unmapped start count memory =
+    ranges_of (λ address. if within start count address then None else cell_at memory address)
 
 -- other rights: what loses all rights loses its bytes
 abbrev pub with_rights : Rights → Option Cell → Option Cell

@@ -4,6 +4,7 @@
 use Rattle.std.specs.Prelude.{ℕ, zero, suc, ◌+◌, ◌-◌, ◌^◌, Bool, ◌&&◌, ◌==◌, nat_le, nat_lt, if◌then◌else◌, List, [], ◌∷◌, get_or, Option, Some, None}
 use Rattle.guest_pages.specs.declared.rights.Rights.{Rights}
 use Rattle.guest_pages.specs.Cells.{Cell, cell, has_none, same_rights}
+use Rattle.guest_pages.specs.Limits.{user_end}
 
 -- addresses from start on with the same rights, and their bytes where they have a right
 pub record Range : Type 0 where
@@ -49,6 +50,6 @@ unfoldable pub ranges_from : (ℕ → Option Cell) → ℕ → ℕ → List Rang
 ranges_from cells address zero = []
 ranges_from cells address (suc count) = with_cell address (cells address) (ranges_from cells (address + 1) count)
 
--- the ranges of all addresses of user memory, which are below 2 ^ 38
+-- the ranges of all addresses of user memory
 unfoldable pub ranges_of : (ℕ → Option Cell) → List Range
-ranges_of cells = ranges_from cells 0 (2 ^ 38)
+ranges_of cells = ranges_from cells 0 user_end

@@ -7,11 +7,11 @@ ghost use Rattle.guest_pages.specs.Operations.{bytes_at};
 ghost use Rattle.guest_pages.specs.Tables.{held};
 
 use crate::looking::bytes_of;
-use crate::page::Page;
+use crate::page::Table;
 use crate::rights::Rights;
 
 /// Bytes of one page, which have these rights, go into a buffer.
-fn copy_piece(tables: &[Vec<Page>], at: u64, into: &mut [u8], needed: Rights)
+fn copy_piece(tables: &[Table], at: u64, into: &mut [u8], needed: Rights)
     requires needed { has_none needed ≡ false }
     requires small { length tables.now ≤ 8192 }
     requires some { 0 < length into.old }
@@ -30,7 +30,7 @@ fn copy_piece(tables: &[Vec<Page>], at: u64, into: &mut [u8], needed: Rights)
 }
 
 /// The bytes from an address on, all of which have these rights, go into a buffer, a page at a time.
-pub(crate) fn copy_from(tables: &[Vec<Page>], at: u64, into: &mut [u8], needed: Rights)
+pub(crate) fn copy_from(tables: &[Table], at: u64, into: &mut [u8], needed: Rights)
     requires needed { has_none needed ≡ false }
     requires small { length tables.now ≤ 8192 }
     requires allowed { first_fault needed (held tables.now) at (length into.old) ≡ None }

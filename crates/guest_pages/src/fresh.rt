@@ -6,8 +6,8 @@ ghost use Rattle.guest_pages.specs.Counting.{count_pages, rights_of, some_right}
 ghost use Rattle.guest_pages.specs.Mapping.{IsZero, IsFresh};
 ghost use Rattle.guest_pages.specs.Tables.{cells, page_found, right_in};
 
-use crate::looking::page_of;
-use crate::page::Page;
+use crate::looking::{page_of, without_pages};
+use crate::page::{Page, Table};
 use std::alloc::{AllocError, Global};
 
 /// A page of zeros.
@@ -43,21 +43,28 @@ fn page_right(page: Option<&Page>) -> bool
 }
 
 /// Whether the page with a number has a right.
-fn has_right(tables: &[Vec<Page>], number: u64) -> bool
+fn has_right(tables: &[Table], number: u64) -> bool
     ensures { result ≡ some_right (rights_of (cells tables.now (4096 * number))) }
 {
     page_right(page_of(tables, number))
 }
 
-/// How many of `count` pages from one on have a right.
-pub(crate) fn stored_of(tables: &[Vec<Page>], first: u64, count: u64) -> u64
+/// How many of `count` pages from one on have a right. Tables without pages are passed as a whole.
+pub(crate) fn stored_of(tables: &[Table], first: u64, count: u64) -> u64
     requires { first + count ≤ 2 ^ 26 }
     ensures { result ≡ count_pages (cells tables.now) first count }
 {
     let mut stored = 0;
-    for i in 0..count {
-        if has_right(tables, first + i) {
-            stored += 1;
+    let mut done = 0;
+    'pages: while done < count {
+        let passed = without_pages(tables, first + done, count - done);
+        if passed > 0 {
+            done += passed;
+        } else {
+            if has_right(tables, first + done) {
+                stored += 1;
+            }
+            done += 1;
         }
     }
     stored

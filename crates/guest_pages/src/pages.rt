@@ -1,16 +1,17 @@
+mod finding;
 mod loads;
 mod mapping;
 mod stores;
 
 ghost use Rattle.std.specs.Prelude.{◌≡◌, []};
 
-use crate::page::Page;
+use crate::page::Table;
 use std::marker::Model;
 
 /// The guest's memory: pages of 4,096 bytes with rights, at byte addresses below 2^38.
 #[derive(Drop)]
 pub struct Pages {
-    tables: Option<Vec<Vec<Page>>>,
+    tables: Option<Vec<Table>>,
     stored: u64,
 }
 

@@ -9,26 +9,44 @@ pub struct Rights {
     pub execute: bool,
 }
 
-pub(crate) const NOTHING: Rights = Rights {
+/// No right.
+pub const NOTHING: Rights = Rights {
     read: false,
     write: false,
     execute: false,
 };
 
-pub(crate) const READABLE: Rights = Rights {
+/// The right to read.
+pub const READABLE: Rights = Rights {
     read: true,
     write: false,
     execute: false,
 };
 
-pub(crate) const WRITABLE: Rights = Rights {
+/// The right to write.
+pub const WRITABLE: Rights = Rights {
     read: false,
     write: true,
     execute: false,
 };
 
-pub(crate) const EXECUTABLE: Rights = Rights {
+/// The right to execute.
+pub const EXECUTABLE: Rights = Rights {
     read: false,
+    write: false,
+    execute: true,
+};
+
+/// The rights to read and to write.
+pub const CHANGEABLE: Rights = Rights {
+    read: true,
+    write: true,
+    execute: false,
+};
+
+/// The rights to read and to execute.
+pub const RUNNABLE: Rights = Rights {
+    read: true,
     write: false,
     execute: true,
 };

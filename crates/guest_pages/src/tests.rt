@@ -1,4 +1,7 @@
+ghost use Rattle.std.specs.Prelude.{◌≡◌, ◌+◌, ◌%◌, ◌≤◌, ◌^◌};
+
 use super::*;
+use std::alloc::Global;
 use std::test::Fail;
 
 const NONE: Rights = Rights {
@@ -184,4 +187,172 @@ fn numbers_by_one_look_up(rt: HostRuntime) -> Result<(), Fail> {
     assert_eq!(rt; pages.load_near(0x1FF8, Width::Eight), None);
     assert!(rt; !pages.store_near(0x1FF8, Width::Eight, 0));
     Ok(())
+}
+
+/// The address of a page below 2^38.
+fn page_address(number: u64) -> u64
+    ensures aligned { result % 4096 ≡ 0 }
+    ensures below { result + 4096 ≤ 2 ^ 38 }
+{
+    4096 * number.min(0x3FF_FFFF)
+}
+
+/// One page with these rights in the place of what was there.
+fn place(alloc: Global, pages: &mut Pages, number: u64, rights: Rights) -> Result<(), MapFault> {
+    pages.map(alloc, page_address(number), 1, rights)
+}
+
+/// Whether one of some pages is mapped, and whether one can be executed.
+fn seen(pages: &Pages, number: u64, count: u64) -> (bool, bool) {
+    let first = number.min(0x3FF_FFFF);
+    let count = count.min(0x400_0000 - first);
+    let at = 4096 * first;
+    (pages.any_mapped(at, count), pages.touches_code(at, count))
+}
+
+/// Some pages are not mapped any more.
+fn unmap(pages: &mut Pages, number: u64, count: u64) {
+    let first = number.min(0x3FF_FFFF);
+    pages.unmap(4096 * first, count.min(0x400_0000 - first));
+}
+
+/// Some pages get these rights, in the place of what was there.
+fn map(
+    alloc: Global,
+    pages: &mut Pages,
+    number: u64,
+    count: u64,
+    rights: Rights,
+) -> Result<(), MapFault> {
+    let first = number.min(0x3FF_FFFF);
+    pages.map(alloc, 4096 * first, count.min(0x400_0000 - first), rights)
+}
+
+#[test]
+fn pages_that_are_mapped_or_code(rt: HostRuntime) -> Result<(), Fail> {
+    let mut pages = Pages::new();
+    // the first page, two beside the border of two tables, the last one
+    place(rt.alloc(), &mut pages, 0, NONE)?;
+    place(rt.alloc(), &mut pages, 8191, BOTH)?;
+    place(rt.alloc(), &mut pages, 8192, CODE)?;
+    place(rt.alloc(), &mut pages, 0x3FF_FFFF, CODE)?;
+    let table: [(u64, u64, (bool, bool)); 11] = [
+        (0, 1, (true, false)),
+        (1, 8190, (false, false)),
+        (1, 8191, (true, false)),
+        (1, 8192, (true, true)),
+        (8191, 1, (true, false)),
+        (8192, 1, (true, true)),
+        (8193, 0x3FF_DFFE, (false, false)),
+        (8193, 0x3FF_DFFF, (true, true)),
+        (0x3FF_FFFF, 1, (true, true)),
+        (0, 0, (false, false)),
+        (0, 0x400_0000, (true, true)),
+    ];
+    for (first, count, answer) in table {
+        assert_eq!(rt; seen(&pages, first, count), answer, "{first} {count}");
+    }
+    unmap(&mut pages, 8192, 0x3FF_E000);
+    assert_eq!(rt; seen(&pages, 8192, 0x3FF_E000), (false, false));
+    assert_eq!(rt; seen(&pages, 0, 8192), (true, false));
+    unmap(&mut pages, 0, 8191);
+    assert_eq!(rt; seen(&pages, 0, 8191), (false, false));
+    assert_eq!(rt; pages.allows(4096 * 8191, 4096, BOTH), Ok(()));
+    Ok(())
+}
+
+#[test]
+fn the_highest_free_range(rt: HostRuntime) -> Result<(), Fail> {
+    let mut pages = Pages::new();
+    assert_eq!(rt; pages.find_free(1), Some(0x3E_FFFF_F000));
+    assert_eq!(rt; pages.find_free(0), Some(0x3F_0000_0000));
+    assert_eq!(rt; pages.find_free(0x3F0_0000), Some(0));
+    assert_eq!(rt; pages.find_free(0x3F0_0001), None);
+    assert_eq!(rt; pages.find_free(u64::MAX), None);
+    // what lies above doesn't count
+    place(rt.alloc(), &mut pages, 0x3F0_0000, BOTH)?;
+    assert_eq!(rt; pages.find_free(1), Some(0x3E_FFFF_F000));
+    // two free pages between two that are mapped
+    place(rt.alloc(), &mut pages, 0x3EF_FFFF, NONE)?;
+    place(rt.alloc(), &mut pages, 0x3EF_FFFC, BOTH)?;
+    assert_eq!(rt; pages.find_free(1), Some(0x3E_FFFF_E000));
+    assert_eq!(rt; pages.find_free(2), Some(0x3E_FFFF_D000));
+    assert_eq!(rt; pages.find_free(3), Some(0x3E_FFFF_9000));
+    // over the border of two tables
+    assert_eq!(rt; pages.find_free(8192), Some(0x3E_FDFF_C000));
+    unmap(&mut pages, 0x3EF_FFFC, 1);
+    assert_eq!(rt; pages.find_free(3), Some(0x3E_FFFF_C000));
+    // all but one page from the start
+    map(rt.alloc(), &mut pages, 1, 0x3EF_FFFF, NONE)?;
+    assert_eq!(rt; pages.find_free(1), Some(0));
+    assert_eq!(rt; pages.find_free(2), None);
+    place(rt.alloc(), &mut pages, 0, NONE)?;
+    assert_eq!(rt; pages.find_free(1), None);
+    Ok(())
+}
+
+#[test]
+fn a_large_range_without_rights(rt: HostRuntime) -> Result<(), Fail> {
+    let mut pages = Pages::new();
+    map(rt.alloc(), &mut pages, 0, 0x400_0000, NONE)?;
+    assert_eq!(rt; pages.find_free(1), None);
+    assert_eq!(rt;
+        pages.load(0x1234_5000, Width::One),
+        Err(PageFault::NoAccess(0x1234_5000))
+    );
+    // one page of it gets a right, one is unmapped
+    pages.protect(rt.alloc(), 0x1234_5000, 1, BOTH)?;
+    assert_eq!(rt; pages.store(0x1234_5FF8, Width::Eight, 7), Ok(()));
+    assert_eq!(rt; pages.load(0x1234_5FF8, Width::Eight), Ok(7));
+    assert_eq!(rt;
+        pages.load(0x1234_6000, Width::One),
+        Err(PageFault::NoAccess(0x1234_6000))
+    );
+    unmap(&mut pages, 0x1_2346, 1);
+    assert_eq!(rt;
+        pages.load(0x1234_6000, Width::One),
+        Err(PageFault::NotMapped(0x1234_6000))
+    );
+    unmap(&mut pages, 8192 * 77 + 5, 1);
+    assert_eq!(rt; pages.find_free(1), Some(4096 * (8192 * 77 + 5)));
+    assert_eq!(rt; pages.find_free(2), None);
+    unmap(&mut pages, 0, 0x400_0000);
+    assert_eq!(rt; pages.find_free(0x3F0_0000), Some(0));
+    assert_eq!(rt;
+        pages.load(0x1234_5FF8, Width::Eight),
+        Err(PageFault::NotMapped(0x1234_5FF8))
+    );
+    Ok(())
+}
+
+#[test]
+fn the_break_grows_by_pages_of_zeros(rt: HostRuntime) -> Result<(), Fail> {
+    let mut pages = Pages::new();
+    assert_eq!(rt; grow(rt.alloc(), &mut pages, 5, 7), Ok(()));
+    assert_eq!(rt; pages.allows(0x5000, 0x2000, BOTH), Ok(()));
+    assert_eq!(rt; pages.store(0x6FFF, Width::One, 9), Ok(()));
+    // lowered, and raised again
+    unmap(&mut pages, 6, 1);
+    assert_eq!(rt; grow(rt.alloc(), &mut pages, 6, 8), Ok(()));
+    assert_eq!(rt; pages.load(0x6FFF, Width::One), Ok(0));
+    assert_eq!(rt; grow(rt.alloc(), &mut pages, 8, 8), Ok(()));
+    assert_eq!(rt;
+        pages.allows(0x8000, 1, BOTH),
+        Err(PageFault::NotMapped(0x8000))
+    );
+    assert_eq!(rt;
+        grow(rt.alloc(), &mut pages, 8, 8 + 65_534),
+        Err(MapFault::PagesFull { wanted: 65_537 })
+    );
+    Ok(())
+}
+
+/// The break goes from one page to another, if the pages between are free.
+fn grow(alloc: Global, pages: &mut Pages, from: u64, to: u64) -> Result<(), MapFault> {
+    let first = from.min(0x3FF_FFFF);
+    let end = to.min(0x3FF_FFFF).max(first);
+    if pages.any_mapped(4096 * first, end - first) {
+        return Err(MapFault::NotMapped(0));
+    }
+    pages.grow_break(alloc, 4096 * first, 4096 * end)
 }

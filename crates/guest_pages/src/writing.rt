@@ -3,10 +3,10 @@
 ghost use Rattle.std.specs.Prelude.{◌≡◌, ◌+◌, ◌/◌, ◌%◌, ◌≤◌, ℕ, length, true, false, is_some, None, ◌-◌, slice_index, if◌then◌else◌};
 ghost use Rattle.guest_pages.specs.Ranges.{within};
 ghost use Rattle.guest_pages.specs.Faults.{first_fault, writable};
-ghost use Rattle.guest_pages.specs.Tables.{cell_in, cells, held, held_in, page_at, rows_of};
+ghost use Rattle.guest_pages.specs.Tables.{cell_in, cells, held, held_in, mark_at, page_at, rows_of};
 ghost use Rattle.guest_pages.specs.Writes.{with_bytes};
 
-use crate::page::Page;
+use crate::page::{Page, Table};
 
 /// Bytes go into an array from a place on.
 #[inline(always)]
@@ -42,11 +42,12 @@ fn write_in(page: &mut Page, place: usize, bytes: &[u8]) -> bool
 
 /// Bytes go into the page of an address, if it can be written; whether it can.
 #[inline(always)]
-fn write_row(tables: &mut Vec<Vec<Page>>, at: u64, bytes: &[u8]) -> bool
+fn write_row(tables: &mut Vec<Table>, at: u64, bytes: &[u8]) -> bool
     requires { at % 4096 + length bytes.now ≤ 4096 }
     ensures answer { result ≡ is_some (held_in writable (page_at tables.old.items (at / 4096))) }
     ensures done { result ≡ true → (a : ℕ) → cells tables.new.items a ≡ with_bytes at bytes.now (cells tables.old.items) a }
     ensures undone { result ≡ false → (a : ℕ) → cells tables.new.items a ≡ cells tables.old.items a }
+    ensures marks { (n : ℕ) → mark_at tables.new.items n ≡ mark_at tables.old.items n }
     ensures size { length tables.new.items ≡ length tables.old.items }
 {
     let number = at / 4096;
@@ -56,19 +57,20 @@ fn write_row(tables: &mut Vec<Vec<Page>>, at: u64, bytes: &[u8]) -> bool
         return false;
     }
     let table = &mut tables[outer];
-    if inner >= table.len() {
+    if inner >= table.pages.len() {
         return false;
     }
-    write_in(&mut table[inner], (at % 4096) as usize, bytes)
+    write_in(&mut table.pages[inner], (at % 4096) as usize, bytes)
 }
 
 /// The same where there may be no tables.
 #[inline(always)]
-fn write_at(tables: &mut Option<Vec<Vec<Page>>>, at: u64, bytes: &[u8]) -> bool
+fn write_at(tables: &mut Option<Vec<Table>>, at: u64, bytes: &[u8]) -> bool
     requires { at % 4096 + length bytes.now ≤ 4096 }
     ensures answer { result ≡ is_some (held_in writable (page_at (rows_of tables.old) (at / 4096))) }
     ensures done { result ≡ true → (a : ℕ) → cells (rows_of tables.new) a ≡ with_bytes at bytes.now (cells (rows_of tables.old)) a }
     ensures undone { result ≡ false → (a : ℕ) → cells (rows_of tables.new) a ≡ cells (rows_of tables.old) a }
+    ensures marks { (n : ℕ) → mark_at (rows_of tables.new) n ≡ mark_at (rows_of tables.old) n }
     ensures size { length (rows_of tables.new) ≡ length (rows_of tables.old) }
 {
     match tables {
@@ -79,11 +81,12 @@ fn write_at(tables: &mut Option<Vec<Vec<Page>>>, at: u64, bytes: &[u8]) -> bool
 
 /// Bytes go into memory from an address on, if they lie in one page and it can be written; whether they do.
 #[inline(always)]
-pub(crate) fn write_near(tables: &mut Option<Vec<Vec<Page>>>, at: u64, bytes: &[u8]) -> bool
+pub(crate) fn write_near(tables: &mut Option<Vec<Table>>, at: u64, bytes: &[u8]) -> bool
     requires { length (rows_of tables.old) ≤ 8192 }
     ensures good { result ≡ true → first_fault writable (held (rows_of tables.old)) at (length bytes.now) ≡ None }
     ensures done { result ≡ true → (a : ℕ) → cells (rows_of tables.new) a ≡ with_bytes at bytes.now (cells (rows_of tables.old)) a }
     ensures undone { result ≡ false → (a : ℕ) → cells (rows_of tables.new) a ≡ cells (rows_of tables.old) a }
+    ensures marks { (n : ℕ) → mark_at (rows_of tables.new) n ≡ mark_at (rows_of tables.old) n }
     ensures size { length (rows_of tables.new) ≡ length (rows_of tables.old) }
     ensures near { at % 4096 + length bytes.now ≤ 4096 → result ≡ is_some (held_in writable (page_at (rows_of tables.old) (at / 4096))) }
 {
@@ -95,10 +98,11 @@ pub(crate) fn write_near(tables: &mut Option<Vec<Vec<Page>>>, at: u64, bytes: &[
 }
 
 /// Bytes go into memory from an address on, all of which can be written, a page at a time.
-pub(crate) fn copy_into(tables: &mut Option<Vec<Vec<Page>>>, at: u64, bytes: &[u8])
+pub(crate) fn copy_into(tables: &mut Option<Vec<Table>>, at: u64, bytes: &[u8])
     requires small { length (rows_of tables.old) ≤ 8192 }
     requires allowed { first_fault writable (held (rows_of tables.old)) at (length bytes.now) ≡ None }
     ensures cells { (a : ℕ) → cells (rows_of tables.new) a ≡ with_bytes at bytes.now (cells (rows_of tables.old)) a }
+    ensures marks { (n : ℕ) → mark_at (rows_of tables.new) n ≡ mark_at (rows_of tables.old) n }
     ensures size { length (rows_of tables.new) ≡ length (rows_of tables.old) }
 {
     let mut done = 0;

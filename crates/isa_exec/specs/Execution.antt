@@ -6,15 +6,14 @@ use Rattle.isa_decode.specs.declared.instruction.Instr.{Instr}
 use Rattle.isa_decode.specs.declared.instruction.Instr.TheVariants as instr
 use Rattle.isa_exec.specs.declared.effect.Effect.{Effect}
 use Rattle.isa_exec.specs.declared.effect.Effect.TheVariants as effect
-use Rattle.isa_exec.specs.declared.registers.Regs.{Regs}
 use Rattle.isa_exec.specs.Arithmetic.{alu, is_taken, number, with_register_operand}
-use Rattle.isa_exec.specs.Registers.{behind, going_on_at, register, with_register}
+use Rattle.isa_exec.specs.Registers.{Registers, behind, going_on_at, register, with_register}
 
 -- the address that a register and an offset give
-abbrev pub address : Regs → ℕ → ℤ → ℕ
+abbrev pub address : Registers → ℕ → ℤ → ℕ
 address regs rs1 imm = (register regs rs1 + number imm) % 2 ^ 64
 
-abbrev pub effect_of : Instr → Regs → Effect
+abbrev pub effect_of : Instr → Registers → Effect
 effect_of (instr.Lui rd imm) regs = effect.Next
 effect_of (instr.Auipc rd imm) regs = effect.Next
 effect_of (instr.Jal rd imm) regs = effect.Jump
@@ -88,18 +87,18 @@ is_alone instr.Ecall = false
 is_alone instr.Ebreak = false
 
 -- the value goes into rd, and the program goes on behind the instruction
-abbrev pub put : ℕ → ℕ → ℕ → Regs → Regs
+abbrev pub put : ℕ → ℕ → ℕ → Registers → Registers
 put rd value size regs = going_on_at (behind size regs) (with_register rd value regs)
 
 -- the address behind the instruction goes into rd, and the program goes on at the target
-abbrev pub linked : ℕ → ℕ → ℕ → Regs → Regs
+abbrev pub linked : ℕ → ℕ → ℕ → Registers → Registers
 linked rd target size regs = going_on_at target (with_register rd (behind size regs) regs)
 
 -- bit 0 of a target is cleared
 abbrev pub even : ℕ → ℕ
 even n = n - n % 2
 
-unfoldable pub regs_after : Instr → ℕ → Regs → Regs
+unfoldable pub regs_after : Instr → ℕ → Registers → Registers
 regs_after (instr.Lui rd imm) size regs = put rd (number imm) size regs
 regs_after (instr.Auipc rd imm) size regs = put rd (behind (number imm) regs) size regs
 regs_after (instr.Jal rd imm) size regs = linked rd (behind (number imm) regs) size regs

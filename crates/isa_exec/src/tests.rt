@@ -22,10 +22,10 @@ const MIXED: u64 = 0xDEAD_BEEF_89AB_CDEF;
 
 /// Registers whose x10 is `a` and x11 is `b`. Each other one holds 0.
 fn holding(pc: u64, a: u64, b: u64) -> Regs {
-    let mut x = [0; 32];
-    x[10] = a;
-    x[11] = b;
-    Regs { pc, x }
+    let mut regs = Regs::starting_at(pc);
+    regs.set_register(10, a);
+    regs.set_register(11, b);
+    regs
 }
 
 /// Asserts what the instruction asks for, and each of the registers after it.
@@ -41,15 +41,17 @@ fn assert_exec(
     assert!(rt; size == 2 || size == 4, "{instr:?}");
     let mut regs = before;
     assert_eq!(rt; exec(&instr, size, &mut regs), effect, "{instr:?}");
-    assert_eq!(rt; regs.pc, after.pc, "pc of {instr:?}");
-    assert_eq!(rt; regs.x, after.x, "{instr:?}");
+    assert_eq!(rt; regs.pc(), after.pc(), "pc of {instr:?}");
+    for number in 0..32 {
+        assert_eq!(rt; regs.register(number), after.register(number), "{instr:?}");
+    }
 }
 
 /// Asserts that an instruction that writes x12 gives the value where x10 is `a` and x11 is `b`.
 fn assert_gives(rt: &impl Abort, instr: Instr, a: u64, b: u64, wanted: u64) {
     let before = holding(0x1_0000, a, b);
     let mut after = holding(0x1_0004, a, b);
-    after.x[12] = wanted;
+    after.set_register(12, wanted);
     assert_exec(rt, instr, 4, before, Effect::Next, after);
 }
 
@@ -823,8 +825,8 @@ fn instructions_on_registers_alone(rt: HostRuntime) {
         assert!(rt; is_in_range(&instr), "{instr:?}");
         let mut regs = holding(0x1_0000, 7, 3);
         assert_eq!(rt; exec_alone(&instr, 4, &mut regs), alone, "{instr:?}");
-        assert_eq!(rt; regs.pc, next, "pc of {instr:?}");
-        assert_eq!(rt; regs.x[10], value, "{instr:?}");
+        assert_eq!(rt; regs.pc(), next, "pc of {instr:?}");
+        assert_eq!(rt; regs.register(10), value, "{instr:?}");
     }
 }
 
@@ -844,8 +846,8 @@ fn operations_are_told_from_other_instructions(rt: HostRuntime) {
             operation,
             "{instr:?}"
         );
-        assert_eq!(rt; regs.pc, next, "pc of {instr:?}");
-        assert_eq!(rt; regs.x[10], value, "{instr:?}");
+        assert_eq!(rt; regs.pc(), next, "pc of {instr:?}");
+        assert_eq!(rt; regs.register(10), value, "{instr:?}");
     }
 }
 
@@ -881,7 +883,7 @@ fn transfers_are_told_from_other_instructions(rt: HostRuntime) {
         assert!(rt; is_in_range(&instr), "{instr:?}");
         let mut regs = holding(0x1_0000, 7, 3);
         assert_eq!(rt; exec_transfer(&instr, 4, &mut regs), transfer, "{instr:?}");
-        assert_eq!(rt; regs.pc, next, "pc of {instr:?}");
-        assert_eq!(rt; regs.x[10], value, "{instr:?}");
+        assert_eq!(rt; regs.pc(), next, "pc of {instr:?}");
+        assert_eq!(rt; regs.register(10), value, "{instr:?}");
     }
 }

@@ -3,7 +3,8 @@
 -- Source: signal(7); the form is the project's own.
 use Rattle.std.specs.Prelude.{ℕ, List, [], ◌∷◌, Option, None}
 use Rattle.guest_core.specs.declared.ends.End.{End}
-use Rattle.guest_core.specs.Machine.{Shared, by_id, first_thread, with_id}
+use Rattle.guest_core.specs.Machine.{by_id, first_thread, with_id}
+use Rattle.host_calls.specs.Shared.{Shared}
 use Rattle.guest_core.specs.Start.{Program, first_shared, first_regs}
 use Rattle.linux_model.specs.declared.task.Task.{Task}
 
@@ -51,7 +52,7 @@ begun program devices = alone (record {
 
 -- what is seen of a run: the bytes written to each device, in order, and the end
 abbrev pub seen_outputs : ProcessState → List (List ℕ)
-seen_outputs process = process.shared.outputs
+seen_outputs process = process.shared.files.outputs
 
 abbrev pub seen_end : ProcessState → Option End
 seen_end process = process.end

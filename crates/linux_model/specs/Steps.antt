@@ -2,12 +2,14 @@
 -- Source: signal(7): pending signals are taken before the thread goes on in its program. The labels are the project's
 -- own.
 use Rattle.std.specs.Prelude.{ℕ, ◌==◌, if◌then◌else◌, List, [], ◌∷◌, Option, Some, None, is_none}
-use Rattle.guest_core.specs.declared.queue.Instance.{Instance}
-use Rattle.guest_core.specs.Call as call
-use Rattle.guest_core.specs.Instruction as instruction
-use Rattle.guest_core.specs.Machine.{due, later}
-use Rattle.guest_core.specs.Pending.{first_of, is_empty}
-use Rattle.guest_core.specs.Signals.{forced, taken_out, end_of_taking}
+use Rattle.host_calls.specs.declared.queue.Instance.{Instance}
+use Rattle.guest_core.specs.Call.{Called, answered, called}
+use Rattle.guest_core.specs.declared.calls.CallOutcome.{CallOutcome}
+use Rattle.guest_core.specs.declared.calls.CallOutcome.TheVariants.{Answers, Ends}
+use Rattle.isa_step.specs.Instruction.{Calls, Faults, InstructionOutcome, Runs, instruction}
+use Rattle.host_calls.specs.Shared.{later}
+use Rattle.guest_core.specs.Signals.{end_of_taking}
+use Rattle.host_calls.specs.Queue.{sent_forced, taken_out, first_of, is_empty, due}
 use Rattle.linux_model.specs.declared.labels.Label.{Label}
 use Rattle.linux_model.specs.declared.labels.Label.TheVariants.{Instr, Call, Take, Tick}
 use Rattle.linux_model.specs.declared.task.Task.{Task}
@@ -17,44 +19,44 @@ use Rattle.linux_model.specs.Process.{ProcessState, TaskContext, context_of, tas
 
 -- the signals that act on the thread next
 abbrev pub due_now : TaskContext → List Instance
-due_now context = due context.task.id context.shared
+due_now context = due context.task.id context.shared.queue
 
 -- an instruction other than ecall is made; its fault sends a forced signal
-abbrev pub instructed : instruction.Outcome → TaskContext → Option TaskContext
-instructed (instruction.Outcome.Runs regs memory held) context = Some (record context {
+abbrev pub instructed : InstructionOutcome → TaskContext → Option TaskContext
+instructed (Runs regs memory held) context = Some (record context {
   task = record context.task { regs = regs };
   shared = record context.shared { memory = memory; held = held };
 })
-instructed instruction.Outcome.Calls context = None
-instructed (instruction.Outcome.Faults fault) context = Some (record context { shared = forced fault context.shared })
+instructed Calls context = None
+instructed (Faults fault) context = Some (record context { shared = record context.shared { queue = sent_forced fault context.shared.queue } })
 
 -- a call was made: its answer reaches the registers, or the process ends
-abbrev pub call_done : call.Called → TaskContext → TaskContext
-call_done called context = outcome_done called.outcome (record context { shared = called.shared })
+abbrev pub call_done : Called → TaskContext → TaskContext
+call_done made context = outcome_done made.outcome (record context { shared = made.shared })
   where
-    outcome_done : call.Outcome → TaskContext → TaskContext
-    outcome_done (call.Outcome.Answers answer) context = record context {
-      task = record context.task { regs = call.answered answer context.task.regs };
+    outcome_done : CallOutcome → TaskContext → TaskContext
+    outcome_done (Answers answer) context = record context {
+      task = record context.task { regs = answered answer context.task.regs };
     }
-    outcome_done (call.Outcome.Ends end) context = record context { end = Some end }
+    outcome_done (Ends end) context = record context { end = Some end }
 
 -- at an ecall, and at nothing else, a call is made
-abbrev pub called : instruction.Outcome → TaskContext → Option TaskContext
-called instruction.Outcome.Calls context =
-    Some (call_done (call.called context.task.id context.task.regs context.shared) context)
-called (instruction.Outcome.Runs regs memory held) context = None
-called (instruction.Outcome.Faults fault) context = None
+abbrev pub called_at : InstructionOutcome → TaskContext → Option TaskContext
+called_at Calls context =
+    Some (call_done (called context.task.id context.task.regs context.shared) context)
+called_at (Runs regs memory held) context = None
+called_at (Faults fault) context = None
 
 -- the first due signal, and no other, is taken
 abbrev pub taken : Option Instance → ℕ → TaskContext → Option TaskContext
 taken None id context = None
 taken (Some instance) id context =
-    if instance.id == id then Some (record context { shared = taken_out instance context.shared; end = Some (end_of_taking instance) }) else None
+    if instance.id == id then Some (record context { shared = record context.shared { queue = taken_out instance context.shared.queue }; end = Some (end_of_taking instance) }) else None
 
 -- what the thread's instruction does
-abbrev pub instruction_of : TaskContext → instruction.Outcome
+abbrev pub instruction_of : TaskContext → InstructionOutcome
 instruction_of context =
-    instruction.instruction context.task.id context.task.regs context.shared.memory context.shared.held
+    instruction context.task.id context.task.regs context.shared.memory context.shared.held
 
 -- ---- the labels of a thread: instructions and calls wait until nothing is due
 
@@ -62,7 +64,7 @@ unfoldable pub makes_instruction : TaskContext → Option TaskContext
 makes_instruction context = if is_empty (due_now context) then instructed (instruction_of context) context else None
 
 unfoldable pub makes_call : TaskContext → Option TaskContext
-makes_call context = if is_empty (due_now context) then called (instruction_of context) context else None
+makes_call context = if is_empty (due_now context) then called_at (instruction_of context) context else None
 
 unfoldable pub takes : ℕ → TaskContext → Option TaskContext
 takes id context = taken (first_of (due_now context)) id context

@@ -5,7 +5,7 @@ use guest_core::{End, FIRST_THREAD, start};
 use std::alloc::Global;
 use std::test::Fail;
 
-/// The headers of a file of 132 bytes, loaded whole at 0x10000, whose code begins at 0x10078.
+/// The headers of a file that is loaded whole at 0x10000, and whose code begins at 0x10078. Its two sizes stand at 96 and 104.
 const HEADERS: [u8; 120] = [
     0x7F, b'E', b'L', b'F', 2, 1, 1, 0, 0, 0, 0, 0, 0, 0, 0, 0, // identity
     2, 0, 243, 0, 1, 0, 0, 0, 0x78, 0, 1, 0, 0, 0, 0, 0, // type, machine, version, entry
@@ -13,7 +13,7 @@ const HEADERS: [u8; 120] = [
     1, 0, 0, 0, 64, 0, 56, 0, 1, 0, 0, 0, 0, 0, 0, 0, // flags, sizes, numbers
     1, 0, 0, 0, 5, 0, 0, 0, 0, 0, 0, 0, 0, 0, 0, 0, // type, rights, offset
     0, 0, 1, 0, 0, 0, 0, 0, 0, 0, 1, 0, 0, 0, 0, 0, // address
-    132, 0, 0, 0, 0, 0, 0, 0, 132, 0, 0, 0, 0, 0, 0, 0, // sizes
+    0, 0, 0, 0, 0, 0, 0, 0, 0, 0, 0, 0, 0, 0, 0, 0, // sizes
     0, 16, 0, 0, 0, 0, 0, 0, // alignment
 ];
 
@@ -29,19 +29,24 @@ const CALL: Label = Label::Call(FIRST_THREAD);
 /// The labels of that program's five steps, of which two have no label but a tick.
 const LABELS: [Label; 8] = [TICK, INSTR, TICK, INSTR, TICK, TICK, TICK, CALL];
 
-fn process(alloc: Global, words: &[u32]) -> Result<Process, Fail> {
-    let mut bytes = HEADERS.to_vec(alloc)?;
+/// The process of a file of `size` bytes: the headers, these words, and data behind them.
+fn process(alloc: Global, words: &[u32], data: &[u8], size: u8) -> Result<Process, Fail> {
+    let mut headers = HEADERS;
+    headers[96] = size;
+    headers[104] = size;
+    let mut bytes = headers.to_vec(alloc)?;
     for word in words {
         bytes.extend_from_slice(&word.to_le_bytes())?;
     }
+    bytes.extend_from_slice(data)?;
     let elf = read(alloc, &bytes)?;
     let name = [Text::new(alloc, "a")?];
-    Ok(Process::of(alloc, start(alloc, &elf, &name, &[], 3)?))
+    Ok(Process::of(start(alloc, &elf, &name, &[], 3)?))
 }
 
 #[test]
 fn ends_with_its_code(rt: HostRuntime) -> Result<(), Fail> {
-    let process = follow(process(rt.alloc(), &EXITS)?, &LABELS)?;
+    let process = follow(process(rt.alloc(), &EXITS, &[], 132)?, &LABELS)?;
     assert!(rt; matches!(process.ended(), Some(End::Exit(7))));
     match process.regs(FIRST_THREAD) {
         Some(regs) => assert_eq!(rt; regs.register(17), 94),
@@ -55,7 +60,7 @@ fn ends_with_its_code(rt: HostRuntime) -> Result<(), Fail> {
 
 #[test]
 fn lives_before_the_last_label(rt: HostRuntime) -> Result<(), Fail> {
-    let process = follow(process(rt.alloc(), &EXITS)?, &LABELS[..7])?;
+    let process = follow(process(rt.alloc(), &EXITS, &[], 132)?, &LABELS[..7])?;
     assert!(rt; process.ended().is_none());
     Ok(())
 }
@@ -78,10 +83,36 @@ fn the_first_label_that_is_not_allowed(rt: HostRuntime) -> Result<(), Fail> {
         (&illegal, &[INSTR, Label::Take(FIRST_THREAD, 0), TICK], 2),
     ];
     for (words, labels, index) in table {
-        match follow(process(rt.alloc(), words)?, labels) {
+        match follow(process(rt.alloc(), words, &[], 132)?, labels) {
             Err(FollowFault::NotAllowed(found)) => assert_eq!(rt; found, index),
             _ => assert!(rt; false, "at {index}"),
         }
     }
+    Ok(())
+}
+
+#[test]
+fn writes_to_its_device(rt: HostRuntime) -> Result<(), Fail> {
+    // write(1, 0x1009C, 3), and exit_group(0)
+    let words = [
+        0x0001_05B7,
+        0x09C5_8593,
+        0x0010_0513,
+        0x0030_0613,
+        0x0400_0893,
+        0x0000_0073,
+        0x0000_0533,
+        0x05E0_0893,
+        0x0000_0073,
+    ];
+    // fourteen steps: a call takes three before its answer reaches the registers, and one for that
+    let labels = [
+        TICK, INSTR, TICK, INSTR, TICK, INSTR, TICK, INSTR, TICK, INSTR, TICK, TICK, TICK, CALL,
+        TICK, TICK, INSTR, TICK, INSTR, TICK, TICK, TICK, CALL,
+    ];
+    let process = follow(process(rt.alloc(), &words, b"hi\n", 159)?, &labels)?;
+    assert_eq!(rt; process.output(1), Some(b"hi\n".as_slice()));
+    assert_eq!(rt; process.output(0), Some([].as_slice()));
+    assert!(rt; matches!(process.ended(), Some(End::Exit(0))));
     Ok(())
 }

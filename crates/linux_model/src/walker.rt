@@ -8,7 +8,7 @@ use crate::state::State;
 use crate::task::Task;
 use guest_core::{Core, CoreParts, End, FIRST_THREAD};
 use isa_exec::Regs;
-use std::alloc::{AllocError, Global};
+use std::alloc::AllocError;
 use std::marker::Model;
 
 /// A process.
@@ -33,23 +33,13 @@ impl Process {
 
     /// The process of a core as `start` left it.
     #[tactic(auto, unfolding(guest_core::specs::Start::started, crate::specs::Process::begun))]
-    pub fn of(alloc: Global, core: Core) -> Process
+    pub fn of(core: Core) -> Process
         requires { (program : Program) × (devices : ℕ) × (core ≡ started program devices) }
         ensures { (program : Program) (devices : ℕ) → core ≡ started program devices → result ≡ begun program devices }
     {
-        let CoreParts {
-            memory,
-            held,
-            outputs,
-            regs,
-        } = core.into_parts();
+        let CoreParts { host, regs } = core.into_parts();
         let state = State {
-            memory,
-            held,
-            outputs,
-            pending: Vec::new(alloc),
-            next_id: 0,
-            clock: 0,
+            host,
             task: Task {
                 id: FIRST_THREAD,
                 regs,
@@ -79,11 +69,11 @@ impl Process {
 
     /// What was written to a device, in order.
     pub fn output(&self, device: usize) -> Option<&[u8]>
-        ensures within { IsSome result ↔ (device < length self.now.shared.outputs) }
-        ensures value { IfSome result (λ output. output.now ≡ slice_index_or self.now.shared.outputs device []) }
+        ensures within { IsSome result ↔ (device < length self.now.shared.files.outputs) }
+        ensures value { IfSome result (λ output. output.now ≡ slice_index_or self.now.shared.files.outputs device []) }
     {
-        if device < self.state.outputs.len() {
-            Some(self.state.outputs.get(device))
+        if device < self.state.host.outputs.len() {
+            Some(self.state.host.outputs.get(device))
         } else {
             None
         }
@@ -103,7 +93,7 @@ impl Process {
         }
         match *label {
             Label::Tick => {
-                self.state.clock = self.state.clock.saturating_add(100);
+                self.state.host.tick();
                 Ok(true)
             }
             Label::Instr(thread) => {

@@ -7,6 +7,7 @@ use Rattle.elf_file.specs.Segments.{SegmentImage, is_writable, is_executable, ha
 use Rattle.guest_pages.specs.declared.rights.Rights.{Rights}
 use Rattle.guest_pages.specs.Cells.{Cell, cell}
 use Rattle.guest_pages.specs.Ranges.{Range, within, ranges_of}
+use Rattle.guest_pages.specs.Limits.{page_size}
 
 -- the page with a number has a byte of the segment
 unfoldable pub touches : SegmentImage → ℕ → Bool
@@ -42,7 +43,7 @@ byte_at (s ∷ segments) address =
 -- what stands at an address: nothing, where no segment has a byte in its page
 unfoldable pub cell_of : List SegmentImage → ℕ → Option Cell
 cell_of segments address =
-    if is_touched segments (address / 4096) then Some (cell (page_rights segments (address / 4096)) (byte_at segments address)) else None
+    if is_touched segments (address / page_size) then Some (cell (page_rights segments (address / page_size)) (byte_at segments address)) else None
 
 -- the memory
 unfoldable pub loaded : List SegmentImage → List Range

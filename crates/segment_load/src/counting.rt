@@ -9,8 +9,9 @@ ghost use Rattle.guest_pages.specs.Operations.{stored_pages};
 ghost use Rattle.segment_load.specs.Loading.{loaded};
 ghost use Rattle.segment_load.specs.Wanted.{is_stored_by as is_stored, own_pages as own_pages_of, pages_of};
 
-use crate::rights::{PAGE, last_page, touches};
+use crate::rights::{last_page, touches};
 use elf_file::{Elf, Segment};
+use guest_pages::PAGE_SIZE;
 
 /// How many pages the segments of a file store: each page of a segment that has a right, once. A number that passes 64 bits
 /// is told as 2^64 - 1. It costs by the square of the number of segments, and not by their pages.
@@ -52,7 +53,7 @@ fn own_pages(segment: &Segment, later: &[Segment]) -> u64
     if segment.rights == 0 || segment.size == 0 {
         return 0;
     }
-    let first = segment.at / PAGE;
+    let first = segment.at / PAGE_SIZE;
     let last = last_page(segment);
     let at_first = one_unless(is_stored_by(later, first));
     if first == last {

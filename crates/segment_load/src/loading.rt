@@ -10,17 +10,10 @@ ghost use Rattle.segment_load.specs.Loading.{cell_of, loaded};
 ghost use Rattle.segment_load.specs.Wanted.{page_count};
 ghost use Rattle.segment_load.specs.Steps.{Has, IsLoading, filled_by, granted, granted_by, loading_rights as rights_until_filled, mapped, on_pages};
 
-use crate::rights::{NOTHING, PAGE, last_page, page_rights};
+use crate::rights::{last_page, page_rights};
 use elf_file::{Elf, Segment};
-use guest_pages::{Pages, Rights};
+use guest_pages::{CHANGEABLE, NOTHING, PAGE_SIZE, Pages, Rights};
 use std::alloc::{AllocError, Global};
-
-/// The rights of pages that will have a right, until they have their bytes.
-const LOADING: Rights = Rights {
-    read: true,
-    write: true,
-    execute: false,
-};
 
 /// The memory of a file's segments. The one refusal is want of memory, also where more than 65,536 pages would be stored,
 /// as `wanted_pages` counts them. While it is made no more pages are stored than in the end. It costs by their pages, each
@@ -68,7 +61,7 @@ fn map_one(
     if segment.size == 0 {
         return Ok(());
     }
-    let first = segment.at / PAGE;
+    let first = segment.at / PAGE_SIZE;
     let count = last_page(segment) - first + 1;
     map_pages(alloc, memory, segments, first, count)
 }
@@ -87,7 +80,7 @@ fn map_pages(
     for done in 0..count {
         let page = first + done;
         let rights = loading_rights(segments, page);
-        if memory.map(alloc, PAGE * page, 1, rights).is_err() {
+        if memory.map(alloc, PAGE_SIZE * page, 1, rights).is_err() {
             return Err(AllocError);
         }
     }
@@ -101,7 +94,7 @@ fn loading_rights(segments: &[Segment], page: u64) -> Rights
     if page_rights(segments, page).has_none() {
         NOTHING
     } else {
-        LOADING
+        CHANGEABLE
     }
 }
 
@@ -177,7 +170,7 @@ fn grant_one(
     if segment.size == 0 {
         return Ok(());
     }
-    let first = segment.at / PAGE;
+    let first = segment.at / PAGE_SIZE;
     let count = last_page(segment) - first + 1;
     grant_pages(alloc, memory, segments, first, count)
 }
@@ -196,7 +189,7 @@ fn grant_pages(
     for done in 0..count {
         let page = first + done;
         let rights = page_rights(segments, page);
-        if memory.protect(alloc, PAGE * page, 1, rights).is_err() {
+        if memory.protect(alloc, PAGE_SIZE * page, 1, rights).is_err() {
             return Err(AllocError);
         }
     }

@@ -6,24 +6,14 @@ ghost use Rattle.elf_file.specs.Views.{segment_image};
 ghost use Rattle.segment_load.specs.Loading.{either as either_of, page_rights as rights_of_page, rights_by, touches as touches_page};
 
 use elf_file::Segment;
-use guest_pages::Rights;
-
-/// The bytes of a page.
-pub(crate) const PAGE: u64 = 4096;
-
-/// No right.
-pub(crate) const NOTHING: Rights = Rights {
-    read: false,
-    write: false,
-    execute: false,
-};
+use guest_pages::{NOTHING, PAGE_SIZE, Rights};
 
 /// The number of the page of the last byte of a segment that has one.
 pub(crate) fn last_page(segment: &Segment) -> u64
     requires { 0 < segment.now.size }
     ensures { result ≡ page_of_last (segment_image segment.now) }
 {
-    (segment.at + segment.size - 1) / PAGE
+    (segment.at + segment.size - 1) / PAGE_SIZE
 }
 
 /// Whether the page with a number has a byte of the segment.
@@ -34,7 +24,7 @@ pub(crate) fn touches(segment: &Segment, page: u64) -> bool
     if segment.size == 0 {
         return false;
     }
-    segment.at / PAGE <= page && page <= last_page(segment)
+    segment.at / PAGE_SIZE <= page && page <= last_page(segment)
 }
 
 /// The rights by a segment's flags.

@@ -5,9 +5,10 @@ use Rattle.guest_pages.specs.Operations.{written}
 use Rattle.guest_pages.specs.Ranges.{Range}
 use Rattle.start_stack.specs.declared.placing.Contents.{Contents}
 use Rattle.start_stack.specs.Texts.{joined, with_zero}
-use Rattle.start_stack.specs.Block.{block, block_at, name_of, random_at, random_bytes, rounded_down, stack_end}
+use Rattle.start_stack.specs.Block.{block, block_at, name_of, random_at, random_bytes, rounded_down}
 use Rattle.start_stack.specs.Contents.{IsContents, IsInside, filled}
-use Rattle.start_stack.specs.Placing.{most_bytes, stack_length, stack_pointer, stack_size, with_pages, with_stack}
+use Rattle.start_stack.specs.Placing.{stack_pointer, stack_size, with_pages, with_stack}
+use Rattle.guest_pages.specs.Limits.{most_stack_bytes, stack_length, stack_end}
 use Rattle.start_stack.specs.Words.{words, word_count, bytes_of}
 use Rattle.start_stack.proofs.WordFacts.{length_word_bytes}
 
@@ -19,19 +20,19 @@ unfolding block
 length_block args env = four (joined args) (joined env) (with_zero (name_of args)) (random_bytes 16)
 
 -- the block and the words have few bytes
-pub few_bytes : (args env : List (List ℕ)) → stack_size args env ≤ most_bytes → length (block args env) + 8 * word_count args env ≤ most_bytes
+pub few_bytes : (args env : List (List ℕ)) → stack_size args env ≤ most_stack_bytes → length (block args env) + 8 * word_count args env ≤ most_stack_bytes
 unfolding stack_size
 few_bytes args env few = few
 
 -- the block lies in the stack, close to its end
-pub block_place : (args env : List (List ℕ)) → stack_size args env ≤ most_bytes → (stack_end ≤ block_at args env + length (block args env) + 15) × (block_at args env + length (block args env) ≤ stack_end)
+pub block_place : (args env : List (List ℕ)) → stack_size args env ≤ most_stack_bytes → (stack_end ≤ block_at args env + length (block args env) + 15) × (block_at args env + length (block args env) ≤ stack_end)
 unfolding block_at
 block_place args env few =
     let sum = few_bytes args env few in
     (omega arith, omega arith)
 
 -- the words lie before it
-pub pointer_place : (args env : List (List ℕ)) → stack_size args env ≤ most_bytes → (block_at args env ≤ stack_pointer args env + 8 * word_count args env + 15) × (stack_pointer args env + 8 * word_count args env ≤ block_at args env)
+pub pointer_place : (args env : List (List ℕ)) → stack_size args env ≤ most_stack_bytes → (block_at args env ≤ stack_pointer args env + 8 * word_count args env + 15) × (stack_pointer args env + 8 * word_count args env ≤ block_at args env)
 unfolding stack_pointer
 pointer_place args env few =
     let sum = few_bytes args env few in
@@ -49,13 +50,13 @@ unfolding stack_pointer
 pointer_begins args env at size pointer same-at same is =
     is ∙ (ap (λ (a : ℕ). rounded_down (a - size)) same-at ∙ ap (λ (n : ℕ). rounded_down (block_at args env - n)) same)
 
-pub random_inside : (args env : List (List ℕ)) → stack_size args env ≤ most_bytes → random_at args env < 2 ^ 38
+pub random_inside : (args env : List (List ℕ)) → stack_size args env ≤ most_stack_bytes → random_at args env < 2 ^ 38
 random_inside args env few =
     let place = (block_place args env few).1 in
     let size = length_block args env in
     omega arith
 
-pub block_inside : (args env : List (List ℕ)) (at : ℕ) (bytes : List ℕ) → stack_size args env ≤ most_bytes → at ≡ block_at args env → bytes ≡ block args env → IsInside at bytes
+pub block_inside : (args env : List (List ℕ)) (at : ℕ) (bytes : List ℕ) → stack_size args env ≤ most_stack_bytes → at ≡ block_at args env → bytes ≡ block args env → IsInside at bytes
 block_inside args env at bytes few same-at same =
     let sum = few_bytes args env few in
     let place = block_place args env few in
@@ -64,7 +65,7 @@ block_inside args env at bytes few same-at same =
     let size = ap length same in
     record { low = omega arith; high = omega arith }
 
-pub words_inside : (image : Image) (args env : List (List ℕ)) (at : ℕ) (bytes : List ℕ) → stack_size args env ≤ most_bytes → at ≡ stack_pointer args env → bytes ≡ bytes_of (words image args env) → IsInside at bytes
+pub words_inside : (image : Image) (args env : List (List ℕ)) (at : ℕ) (bytes : List ℕ) → stack_size args env ≤ most_stack_bytes → at ≡ stack_pointer args env → bytes ≡ bytes_of (words image args env) → IsInside at bytes
 words_inside image args env at bytes few same-at same =
     let sum = few_bytes args env few in
     let place = block_place args env few in
@@ -91,7 +92,7 @@ unfolding stack_pointer
 pointer_aligned args env = omega arith
 
 -- it lies in the stack
-pub pointer_inside : (args env : List (List ℕ)) → stack_size args env ≤ most_bytes → (stack_end - stack_length ≤ stack_pointer args env) × (stack_pointer args env < stack_end)
+pub pointer_inside : (args env : List (List ℕ)) → stack_size args env ≤ most_stack_bytes → (stack_end - stack_length ≤ stack_pointer args env) × (stack_pointer args env < stack_end)
 pointer_inside args env few =
     let sum = few_bytes args env few in
     let place = block_place args env few in

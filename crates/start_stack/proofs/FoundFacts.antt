@@ -15,19 +15,22 @@ use Rattle.start_stack.specs.Texts.{joined, with_zero, addresses_from}
 use Rattle.start_stack.specs.Block.{block, block_at, env_at, name_of, name_at, random_at, random_bytes}
 use Rattle.start_stack.specs.Contents.{IsInside}
 use Rattle.start_stack.specs.Found.{Finds, Holds, word_at}
-use Rattle.start_stack.specs.Placing.{most_bytes, stack_pointer, stack_rights, stack_size, with_pages, with_stack}
+use Rattle.start_stack.specs.Placing.{stack_pointer, stack_size, with_pages, with_stack}
+use Rattle.guest_pages.specs.Faults.{changeable}
+use Rattle.guest_pages.specs.Limits.{most_stack_bytes}
 use Rattle.start_stack.specs.Words.{auxiliary, words, word_count, bytes_of}
 use Rattle.start_stack.proofs.ContentFacts.{block_inside, pointer_place, words_inside}
-use Rattle.start_stack.proofs.PlacedFacts.{choice_kept, byte_kept, ranges_kept, reads_below, stack_rights_at, written_rights}
+use Rattle.start_stack.proofs.PlacedFacts.{stack_rights_at, written_rights}
+use Rattle.guest_pages.proofs.CellFacts.{choice_kept, byte_kept, ranges_kept, reads_below}
 use Rattle.start_stack.proofs.TextFacts.{length_addresses}
 use Rattle.start_stack.proofs.WordFacts.{length_word_bytes, length_words}
 
 -- ---- what stands after a write
 
-put_byte : (byte : ℕ) (o : Option Cell) → rights_of o ≡ Some stack_rights → byte_of (with_byte byte o) ≡ byte
+put_byte : (byte : ℕ) (o : Option Cell) → rights_of o ≡ Some changeable → byte_of (with_byte byte o) ≡ byte
 put_byte byte None same = cc
 put_byte byte (Some c) same =
-    let e : c.rights ≡ stack_rights = cc in
+    let e : c.rights ≡ changeable = cc in
     rw e refl
 
 written_cell : (start : ℕ) (bytes : List ℕ) (memory : List Range) (a : ℕ) → a < 2 ^ 38 → cell_at (written start bytes memory) a ≡ (if within start (length bytes) a then with_byte (get_or bytes (a - start) 0) (cell_at memory a) else cell_at memory a)
@@ -36,7 +39,7 @@ written_cell start bytes memory a below =
     reads_below _ a (λ k. choice_kept (within start (length bytes) k) (with_byte (get_or bytes (k - start) 0) (cell_at memory k)) (cell_at memory k) (byte_kept (get_or bytes (k - start) 0) (cell_at memory k)) (ranges_kept memory k)) below
 
 -- a byte that was written
-written_in : (start : ℕ) (bytes : List ℕ) (memory : List Range) (a : ℕ) → a < 2 ^ 38 → start ≤ a → a < start + length bytes → rights_of (cell_at memory a) ≡ Some stack_rights → byte_of (cell_at (written start bytes memory) a) ≡ get_or bytes (a - start) 0
+written_in : (start : ℕ) (bytes : List ℕ) (memory : List Range) (a : ℕ) → a < 2 ^ 38 → start ≤ a → a < start + length bytes → rights_of (cell_at memory a) ≡ Some changeable → byte_of (cell_at (written start bytes memory) a) ≡ get_or bytes (a - start) 0
 written_in start bytes memory a below low high same =
     ap byte_of (written_cell start bytes memory a below
     ∙ ap (λ (b : Bool). if b then with_byte (get_or bytes (a - start) 0) (cell_at memory a) else cell_at memory a) (within_inside start (length bytes) a low high))
@@ -149,13 +152,13 @@ part_rest n a b c k =
 
 -- ---- the stack in memory
 
-stack_words : (image : Image) (args env : List (List ℕ)) (memory : List Range) → stack_size args env ≤ most_bytes → Holds (with_stack image args env memory) (stack_pointer args env) (bytes_of (words image args env))
+stack_words : (image : Image) (args env : List (List ℕ)) (memory : List Range) → stack_size args env ≤ most_stack_bytes → Holds (with_stack image args env memory) (stack_pointer args env) (bytes_of (words image args env))
 unfolding with_stack
 stack_words image args env memory few =
     words_hold memory (stack_pointer args env) (block_at args env) (bytes_of (words image args env)) (block args env)
     (words_inside image args env (stack_pointer args env) (bytes_of (words image args env)) few refl refl)
 
-stack_block : (image : Image) (args env : List (List ℕ)) (memory : List Range) → stack_size args env ≤ most_bytes → Holds (with_stack image args env memory) (block_at args env) (block args env)
+stack_block : (image : Image) (args env : List (List ℕ)) (memory : List Range) → stack_size args env ≤ most_stack_bytes → Holds (with_stack image args env memory) (block_at args env) (block args env)
 unfolding with_stack
 stack_block image args env memory few =
     let before = (pointer_place args env few).1 in
@@ -222,7 +225,7 @@ unfolding words
 word_count_first image args env = refl
 
 -- what a program finds in the stack
-pub found : (image : Image) (args env : List (List ℕ)) (memory : List Range) → stack_size args env ≤ most_bytes → ((k : ℕ) → get_or (words image args env) k 0 < 2 ^ 64) → Finds image args env (with_stack image args env memory) (stack_pointer args env)
+pub found : (image : Image) (args env : List (List ℕ)) (memory : List Range) → stack_size args env ≤ most_stack_bytes → ((k : ℕ) → get_or (words image args env) k 0 < 2 ^ 64) → Finds image args env (with_stack image args env memory) (stack_pointer args env)
 found image args env memory few fits =
     let whole : List Range = with_stack image args env memory in
     let sp : ℕ = stack_pointer args env in
@@ -254,7 +257,7 @@ found image args env memory few fits =
     }
 
 -- the same where the answer is that the stack was placed
-pub finds : (image : Image) (args env : List (List ℕ)) (memory : List Range) (result : Result ℕ StackFault) (new : List Range) → stack_size args env ≤ most_bytes → ((k : ℕ) → get_or (words image args env) k 0 < 2 ^ 64) → IfOk result (λ sp. sp ≡ stack_pointer args env) → OnOk result (new ≡ with_stack image args env memory) → IfOk result (Finds image args env new)
+pub finds : (image : Image) (args env : List (List ℕ)) (memory : List Range) (result : Result ℕ StackFault) (new : List Range) → stack_size args env ≤ most_stack_bytes → ((k : ℕ) → get_or (words image args env) k 0 < 2 ^ 64) → IfOk result (λ sp. sp ≡ stack_pointer args env) → OnOk result (new ≡ with_stack image args env memory) → IfOk result (Finds image args env new)
 finds image args env memory (Ok sp) new few fits pointer is =
     subst (Finds image args env new) (sym pointer)
     (subst (λ (m : List Range). Finds image args env m (stack_pointer args env)) (sym is) (found image args env memory few fits))

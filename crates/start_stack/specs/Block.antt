@@ -3,11 +3,9 @@
 -- stack stands, the order of the parts and the random bytes are the project's own.
 use Rattle.std.specs.Prelude.{ℕ, ◌+◌, ◌-◌, ◌*◌, ◌%◌, List, [], ◌∷◌, ◌++◌, length, map}
 use Rattle.std.specs.List.{range_with_len}
+use Rattle.guest_pages.specs.Limits.{stack_end}
+use Rattle.guest_pages.specs.Random.{random_byte}
 use Rattle.start_stack.specs.Texts.{joined, with_zero}
-
--- the address behind the stack
-abbrev pub stack_end : ℕ
-stack_end = 0x3FFFFFE000
 
 -- the last multiple of 16 that isn't above a number
 abbrev pub rounded_down : ℕ → ℕ
@@ -18,11 +16,7 @@ abbrev pub name_of : List (List ℕ) → List ℕ
 name_of [] = []
 name_of (name ∷ rest) = name
 
--- byte k of all random bytes that are drawn
-abbrev pub random_byte : ℕ → ℕ
-random_byte k = (167 * k + 13) % 256
-
--- the first of them
+-- the first random bytes of all that are drawn
 abbrev pub random_bytes : ℕ → List ℕ
 random_bytes count = map random_byte (range_with_len 0 count)
 

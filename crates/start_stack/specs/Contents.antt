@@ -7,9 +7,10 @@ use Rattle.guest_pages.specs.Ranges.{Range}
 use Rattle.start_stack.specs.declared.fault.StackFault.{StackFault}
 use Rattle.start_stack.specs.declared.fault.StackFault.TheVariants.{TooLong, PagesFull, Memory}
 use Rattle.start_stack.specs.declared.placing.Contents.{Contents}
-use Rattle.start_stack.specs.Block.{block, block_at, stack_end}
+use Rattle.start_stack.specs.Block.{block, block_at}
 use Rattle.start_stack.specs.Words.{words, bytes_of}
-use Rattle.start_stack.specs.Placing.{stack_length, stack_pointer, with_pages, most_pages}
+use Rattle.start_stack.specs.Placing.{stack_pointer, with_pages}
+use Rattle.guest_pages.specs.Limits.{stack_length, most_pages, stack_end}
 
 -- each word has 64 bits, and each part is that of the stack
 pub record IsContents (image : Image) (args env : List (List ℕ)) (contents : Contents) : Type 0 where

@@ -3,24 +3,18 @@
 -- number of arguments). The stack's place and size, and both bounds, are the project's own.
 use Rattle.std.specs.Prelude.{◌≡◌, ◌<◌, ◌≤◌, ℕ, ◌+◌, ◌-◌, ◌*◌, ◌^◌, min, true, false, List, length}
 use Rattle.elf_file.specs.Reading.{Image}
-use Rattle.guest_pages.specs.declared.rights.Rights.{Rights}
+use Rattle.guest_pages.specs.Faults.{changeable}
 use Rattle.guest_pages.specs.Operations.{placed, written, stored_pages}
 use Rattle.guest_pages.specs.Ranges.{Range}
 use Rattle.start_stack.specs.declared.fault.StackFault.{StackFault}
 use Rattle.start_stack.specs.declared.fault.StackFault.TheVariants.{TooLong, PagesFull, Memory}
-use Rattle.start_stack.specs.Block.{block, block_at, rounded_down, stack_end}
+use Rattle.start_stack.specs.Block.{block, block_at, rounded_down}
+use Rattle.guest_pages.specs.Limits.{most_pages, most_stack_bytes, stack_end, stack_length}
 use Rattle.start_stack.specs.Words.{words, word_count, bytes_of}
-
--- the bytes of the stack: 8 MiB
-abbrev pub stack_length : ℕ
-stack_length = 0x800000
-
-abbrev pub stack_rights : Rights
-stack_rights = record { read = true; write = true; execute = false }
 
 -- the whole stack is zeros
 abbrev pub with_pages : List Range → List Range
-with_pages memory = placed (stack_end - stack_length) stack_length stack_rights memory
+with_pages memory = placed (stack_end - stack_length) stack_length changeable memory
 
 -- where the words begin
 unfoldable pub stack_pointer : List (List ℕ) → List (List ℕ) → ℕ
@@ -36,26 +30,18 @@ with_stack image args env memory =
 unfoldable pub stack_size : List (List ℕ) → List (List ℕ) → ℕ
 stack_size args env = length (block args env) + 8 * word_count args env
 
--- the most bytes that they may have
-abbrev pub most_bytes : ℕ
-most_bytes = 131072
-
 -- their number as it is told: a number that passes 64 bits is told as the greatest of 64 bits
 abbrev pub told_size : List (List ℕ) → List (List ℕ) → ℕ
 told_size args env = min (stack_size args env) (2 ^ 64 - 1)
 
--- the most pages that can be stored
-abbrev pub most_pages : ℕ
-most_pages = 65536
-
 -- the stack fits
 pub record Fits (args env : List (List ℕ)) (memory : List Range) : Type 0 where
-  pub size : stack_size args env ≤ most_bytes
+  pub size : stack_size args env ≤ most_stack_bytes
   pub pages : stored_pages (with_pages memory) ≤ most_pages
 
 -- why it isn't placed. The size is looked at first, and want of memory is free
 abbrev pub IsRefused : List (List ℕ) → List (List ℕ) → List Range → StackFault → Type 0
-IsRefused args env memory (TooLong size) = (size ≡ told_size args env) × (most_bytes < stack_size args env)
+IsRefused args env memory (TooLong size) = (size ≡ told_size args env) × (most_stack_bytes < stack_size args env)
 IsRefused args env memory (PagesFull wanted) =
-    (wanted ≡ stored_pages (with_pages memory)) × (most_pages < wanted) × (stack_size args env ≤ most_bytes)
-IsRefused args env memory Memory = stack_size args env ≤ most_bytes
+    (wanted ≡ stored_pages (with_pages memory)) × (most_pages < wanted) × (stack_size args env ≤ most_stack_bytes)
+IsRefused args env memory Memory = stack_size args env ≤ most_stack_bytes

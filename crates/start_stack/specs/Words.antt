@@ -7,6 +7,7 @@ use Rattle.byteorder.specs.Endian.{little_bytes}
 use Rattle.elf_file.specs.Reading.{Image}
 use Rattle.start_stack.specs.Texts.{addresses_from}
 use Rattle.start_stack.specs.Block.{block_at, env_at, name_at, random_at}
+use Rattle.guest_pages.specs.Limits.{page_size}
 
 -- the auxiliary pairs: the number of each, and its value
 abbrev pub auxiliary : Image → ℕ → ℕ → List ℕ
@@ -14,7 +15,7 @@ auxiliary image random name =
     3 ∷ image.header_at  -- AT_PHDR
     ∷ 4 ∷ 56  -- AT_PHENT
     ∷ 5 ∷ image.header_count  -- AT_PHNUM
-    ∷ 6 ∷ 4096  -- AT_PAGESZ
+    ∷ 6 ∷ page_size  -- AT_PAGESZ
     ∷ 9 ∷ image.entry  -- AT_ENTRY
     ∷ 11 ∷ 1000  -- AT_UID
     ∷ 12 ∷ 1000  -- AT_EUID

@@ -2,10 +2,11 @@
 
 ghost use Rattle.std.specs.Prelude.{◌≡◌, ◌<◌, ◌++◌, IfOk, OnOk};
 ghost use Rattle.start_stack.specs.Texts.{joined, with_zero};
-ghost use Rattle.start_stack.specs.Block.{block, random_byte as drawn, random_bytes};
+ghost use Rattle.start_stack.specs.Block.{block, random_bytes};
 
 use crate::sizes::name_of;
 use file_tree::Text;
+use guest_pages::random_byte;
 use std::alloc::{AllocError, Global};
 
 /// The bytes of the block.
@@ -48,12 +49,4 @@ fn add_random(bytes: &mut Vec<u8>) -> Result<(), AllocError>
         bytes.push(random_byte(k))?;
     }
     Ok(())
-}
-
-/// Random byte k of all that are drawn.
-fn random_byte(k: u64) -> u8
-    requires { k < 16 }
-    ensures { result ≡ drawn k }
-{
-    ((167 * k + 13) % 256) as u8
 }

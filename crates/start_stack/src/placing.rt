@@ -4,10 +4,11 @@ ghost use Rattle.std.specs.Prelude.{◌≡◌, ◌≤◌, ◌<◌, ◌-◌, ◌%
 ghost use Rattle.elf_file.specs.Reading.{image};
 ghost use Rattle.guest_pages.specs.Faults.{first_fault, writable};
 ghost use Rattle.guest_pages.specs.Operations.{stored_pages, written};
-ghost use Rattle.start_stack.specs.Block.{rounded_down as multiple_below, stack_end};
+ghost use Rattle.start_stack.specs.Block.{rounded_down as multiple_below};
 ghost use Rattle.start_stack.specs.Contents.{IsContents, IsInside, IsUnmapped, filled};
 ghost use Rattle.start_stack.specs.Found.{Finds};
-ghost use Rattle.start_stack.specs.Placing.{Fits, IsRefused, most_bytes, most_pages, stack_length, stack_pointer, stack_size, with_pages, with_stack};
+ghost use Rattle.start_stack.specs.Placing.{Fits, IsRefused, stack_pointer, stack_size, with_pages, with_stack};
+ghost use Rattle.guest_pages.specs.Limits.{most_stack_bytes, most_pages, stack_length, stack_end};
 
 use crate::block::block_of;
 use crate::fault::StackFault;
@@ -15,26 +16,13 @@ use crate::sizes::size_of;
 use crate::words::{bytes_of, words_of};
 use elf_file::Elf;
 use file_tree::Text;
-use guest_pages::{MapFault, Pages, Rights};
+use guest_pages::{
+    CHANGEABLE, MOST_STACK_BYTES, MapFault, Pages, STACK_END, STACK_LENGTH, STACK_PAGES,
+};
 use std::alloc::{AllocError, Global};
 
-/// The byte address behind the stack.
-const STACK_END: u64 = 0x3F_FFFF_E000;
-
-/// The stack's pages, of 4,096 bytes: 8 MiB.
-const STACK_PAGES: u64 = 2048;
-
 /// The byte address where the stack begins.
-const STACK_START: u64 = STACK_END - 4096 * STACK_PAGES;
-
-/// The most bytes that block and words take together.
-const MOST_BYTES: u64 = 131_072;
-
-const STACK_RIGHTS: Rights = Rights {
-    read: true,
-    write: true,
-    execute: false,
-};
+const STACK_START: u64 = STACK_END - STACK_LENGTH;
 
 /// What goes into the stack: the block, and the words as bytes, each with the byte address where it begins.
 #[derive(Drop)]
@@ -71,7 +59,7 @@ pub fn place(
     ensures err { OnErr result (pages.new ≡ pages.old) }
 {
     let size = size_of(args, env);
-    if size > MOST_BYTES {
+    if size > MOST_STACK_BYTES {
         return Err(StackFault::TooLong { size });
     }
     match contents_of(alloc, elf, args, env) {
@@ -87,7 +75,7 @@ fn contents_of(
     args: &[Text],
     env: &[Text],
 ) -> Result<Contents, AllocError>
-    requires { stack_size args.now env.now ≤ most_bytes }
+    requires { stack_size args.now env.now ≤ most_stack_bytes }
     ensures { IfOk result (IsContents (image elf.now) args.now env.now) }
 {
     let block = block_of(alloc, args, env)?;
@@ -137,7 +125,7 @@ fn map_stack(alloc: Global, pages: &mut Pages) -> Result<(), StackFault>
     ensures refused { IfErr result (IsUnmapped pages.old) }
     ensures err { OnErr result (pages.new ≡ pages.old) }
 {
-    match pages.map(alloc, STACK_START, STACK_PAGES, STACK_RIGHTS) {
+    match pages.map(alloc, STACK_START, STACK_PAGES, CHANGEABLE) {
         Ok(()) => Ok(()),
         Err(MapFault::PagesFull { wanted }) => Err(StackFault::PagesFull { wanted }),
         Err(MapFault::NotMapped(_)) => unreachable!(),

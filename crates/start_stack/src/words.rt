@@ -9,6 +9,7 @@ ghost use Rattle.start_stack.specs.Words.{auxiliary as auxiliary_pairs, words, b
 use crate::sizes::name_of;
 use elf_file::Elf;
 use file_tree::Text;
+use guest_pages::PAGE_SIZE;
 use std::alloc::{AllocError, Global};
 
 /// The words, where the block begins at an address.
@@ -61,7 +62,7 @@ fn auxiliary(elf: &Elf, random_at: u64, name_at: u64) -> [u64; 28]
         5,
         u64::from(elf.header_count),
         6,
-        4096,
+        PAGE_SIZE,
         9,
         elf.entry,
         11,

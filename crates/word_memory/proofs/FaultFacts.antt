@@ -5,9 +5,8 @@ use Rattle.guest_pages.specs.declared.rights.Rights.{Rights}
 use Rattle.guest_pages.specs.declared.fault.PageFault.{PageFault}
 use Rattle.guest_pages.specs.declared.fault.PageFault.TheVariants.{NoAccess}
 use Rattle.guest_pages.specs.Cells.{Cell, include}
-use Rattle.guest_pages.specs.Faults.{first_fault, fault_of, fault_or, readable, writable}
+use Rattle.guest_pages.specs.Faults.{first_fault, fault_of, fault_or, readable, writable, changeable}
 use Rattle.guest_pages.specs.Ranges.{Range, cell_at}
-use Rattle.word_memory.specs.Accesses.{changeable}
 
 -- the other rights are among those that are needed
 abbrev Weaker : Rights → Rights → Type 0

@@ -15,10 +15,6 @@ use Rattle.word_memory.specs.declared.reservations.Held.{Held}
 use Rattle.word_memory.specs.Atomics.{combined, cut, size_of}
 use Rattle.word_memory.specs.Reservations.{reserving, stands, stored_to}
 
--- an atomic operation reads and writes
-abbrev pub changeable : Rights
-changeable = record { read = true; write = true; execute = false }
-
 abbrev pub page_fault : Option PageFault → Option WordFault
 page_fault None = None
 page_fault (Some fault) = Some (Page fault)

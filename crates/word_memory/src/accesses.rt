@@ -1,33 +1,15 @@
 ghost use Rattle.std.specs.Prelude.{◌≡◌, ◌<◌, ◌^◌, false, None, Some, IfOk, OnOk, OnErr};
-ghost use Rattle.guest_pages.specs.Faults.{first_fault, readable, writable};
+ghost use Rattle.guest_pages.specs.Faults.{changeable, first_fault, readable, writable};
 ghost use Rattle.guest_pages.specs.Sizes.{size_of as pages_size};
-ghost use Rattle.word_memory.specs.Accesses.{after_conditional, changeable, combined_at, conditional_at, with_word, word_at, word_fault, word_or};
+ghost use Rattle.word_memory.specs.Accesses.{after_conditional, combined_at, conditional_at, with_word, word_at, word_fault, word_or};
 ghost use Rattle.word_memory.specs.Atomics.{cut, filled, size_of};
 ghost use Rattle.word_memory.specs.Reservations.{doubleword, reserving, stands, stored_to};
 
 use crate::combining::{combine, cut_to, fill};
 use crate::fault::WordFault;
 use crate::reservations::Reservations;
-use guest_pages::{Pages, Rights, Width};
+use guest_pages::{CHANGEABLE, Pages, READABLE, Rights, WRITABLE, Width};
 use isa_decode::AmoOp;
-
-const READABLE: Rights = Rights {
-    read: true,
-    write: false,
-    execute: false,
-};
-
-const WRITABLE: Rights = Rights {
-    read: false,
-    write: true,
-    execute: false,
-};
-
-const CHANGEABLE: Rights = Rights {
-    read: true,
-    write: true,
-    execute: false,
-};
 
 /// An atomic operation of the thread on the word of 4 bytes at the byte address `at`, or where it is `wide` on the
 /// doubleword of 8: the old value is answered, a word sign-extended, and the operation's result stored. Of a word, only the

@@ -1,6 +1,6 @@
-use Rattle.std.proofs.Common.{arith, length-set}
-use Rattle.guest_pages.proofs.MapFacts.{room_outer, room_inner, room_kept}
-use Rattle.guest_pages.proofs.PageFacts.{changed_same, changed_other}
+use Rattle.std.proofs.Common.{refl, arith, length-set}
+use Rattle.guest_pages.proofs.MapFacts.{room_outer, room_inner}
+use Rattle.guest_pages.proofs.PageFacts.{changed_same, changed_other, mark_through, room_through}
 use Rattle.guest_pages.proofs.tables.put_page.Goals as goal
 
 pub index_mut-table-requires : goal.index_mut-table-requires
@@ -11,16 +11,20 @@ index_mut-requires c = let low = room_inner c.args.tables.now.items c.args.numbe
 
 pub returns-clause-same : goal.returns-clause-same
 returns-clause-same c =
-    changed_same c.args.tables.now.items c.args.number c.index_mut-table.result.now c.args.page
+    changed_same c.args.tables.now.items c.args.number c.index_mut-table.result.now _ c.args.page
     (room_outer c.args.tables.now.items c.args.number c.requires)
-    (room_inner c.args.tables.now.items c.args.number c.index_mut-table.result.now c.requires c.index_mut-table.ensures.value)
+    (room_inner c.args.tables.now.items c.args.number c.index_mut-table.result.now c.requires c.index_mut-table.ensures.value) refl
 
 pub returns-clause-others : goal.returns-clause-others
 returns-clause-others c = λ n other.
-    changed_other c.args.tables.now.items c.args.number n c.index_mut-table.result.now c.args.page
-    (room_outer c.args.tables.now.items c.args.number c.requires) c.index_mut-table.ensures.value other
+    changed_other c.args.tables.now.items c.args.number n c.index_mut-table.result.now _ c.args.page
+    (room_outer c.args.tables.now.items c.args.number c.requires) c.index_mut-table.ensures.value refl refl other
 
-pub returns-clause-room : goal.returns-clause-room
-returns-clause-room c = λ n room.
-    room_kept c.args.tables.now.items c.args.number n c.index_mut-table.result.now _
-    (room_outer c.args.tables.now.items c.args.number c.requires) c.index_mut-table.ensures.value (length-set c.index_mut-table.result.now.items _ c.args.page) room
+pub returns-clause-marks : goal.returns-clause-marks
+returns-clause-marks c = λ n.
+    mark_through c.args.tables.now.items _ n c.index_mut-table.result.now _ (room_outer c.args.tables.now.items c.args.number c.requires) c.index_mut-table.ensures.value refl
+
+pub returns-clause-rooms : goal.returns-clause-rooms
+returns-clause-rooms c = λ k.
+    room_through c.args.tables.now.items _ k c.index_mut-table.result.now _ (room_outer c.args.tables.now.items c.args.number c.requires) c.index_mut-table.ensures.value
+    (length-set c.index_mut-table.result.now.pages.items _ c.args.page)

@@ -7,7 +7,7 @@ use Rattle.guest_pages.proofs.WriteFacts.{with_bytes_more, with_bytes_none, stil
 use Rattle.guest_pages.proofs.writing.copy_into.Goals as goal
 
 pub loop-done-init : goal.loop-done-init
-loop-done-init c = record { within = omega arith; size = refl; copied = λ a. sym (with_bytes_none c.args.at (cells (rows_of c.args.tables.now)) [] a refl) }
+loop-done-init c = record { within = omega arith; marks = λ n. refl; size = refl; copied = λ a. sym (with_bytes_none c.args.at (cells (rows_of c.args.tables.now)) [] a refl) }
 
 pub overflow_add-place : goal.overflow_add-place
 overflow_add-place c =
@@ -23,6 +23,7 @@ loop-done-preserved c =
     let k : c.loop-done.done + c.min-count.result - c.loop-done.done ≡ c.min-count.result = omega arith in
     record {
       within = room;
+      marks = λ n. c.write_at.ensures.marks n ∙ c.loop-done.invariant.marks n;
       size = c.write_at.ensures.size ∙ c.loop-done.invariant.size;
       copied = λ a.
           c.write_at.ensures.done yes a

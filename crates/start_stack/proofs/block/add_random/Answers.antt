@@ -1,6 +1,7 @@
 use Rattle.std.proofs.Common.{◌++◌, sym, ap, ◌∙◌, append_assoc, ◌∷◌, [], ℕ, List, arith}
 use Rattle.std.proofs.lemmas.List.FromFn.{map-range_with_len_more}
-use Rattle.start_stack.specs.Block.{random_byte, random_bytes}
+use Rattle.start_stack.specs.Block.{random_bytes}
+use Rattle.guest_pages.specs.Random.{random_byte}
 use Rattle.start_stack.proofs.block.add_random.Goals as goal
 
 -- one more random byte

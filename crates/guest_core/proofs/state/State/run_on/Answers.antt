@@ -9,12 +9,12 @@ use Rattle.guest_core.proofs.state.State.run_on.Goals as goal
 pub loop-made-preserved : goal.loop-made-preserved
 loop-made-preserved c =
     let id = c.args.self.now.thread.id in
-    let old = context c.loop-made.self.host c.loop-made.self.thread in
+    let old = context c.loop-made.self.system c.loop-made.self.thread in
     record {
       id = c.go_on.ensures.id ∙ c.loop-made.invariant.id;
       ran = run_more (Some (machine c.args.self.now)) (Step id) c.loop-made.made
           ∙ ap (λ state. happens state (Step id)) c.loop-made.invariant.ran
-          ∙ plain_event id old (context c.go_on.new.host c.go_on.new.self) c.loop-made.invariant.id c.loop-made.invariant.ready (c.if-not-go_on.ensures.made refl);
+          ∙ plain_event id old (context c.go_on.new.system c.go_on.new.self) c.loop-made.invariant.id c.loop-made.invariant.ready (c.if-not-go_on.ensures.made refl);
       plain = all_more id (machine c.args.self.now) (machine c.loop-made.self) c.loop-made.made c.loop-made.invariant.plain c.loop-made.invariant.ran
           (goes_on_alone id old c.loop-made.invariant.id c.loop-made.invariant.ready (c.if-not-go_on.ensures.plain refl));
       ready = c.go_on.ensures.ready;

@@ -6,7 +6,7 @@ use Rattle.guest_pages.proofs.pages.Pages.copy_in.Goals as goal
 
 pub invariant_of-self : goal.invariant_of-self
 invariant_of-self c =
-    sound_written (rows_of c.self.inside.tables) (rows_of c.copy_into.new.tables) c.self.inside.stored c.args.at c.args.bytes.now c.self.invariant c.copy_into.ensures.size c.copy_into.ensures.cells
+    sound_written (rows_of c.self.inside.tables) (rows_of c.copy_into.new.tables) c.self.inside.stored c.args.at c.args.bytes.now c.self.invariant c.copy_into.ensures.size c.copy_into.ensures.marks c.copy_into.ensures.cells
 
 pub returns-in-Ok-clause-ok : goal.returns-in-Ok-clause-ok
 returns-in-Ok-clause-ok c =

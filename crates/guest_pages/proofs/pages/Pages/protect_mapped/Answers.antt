@@ -5,20 +5,21 @@ use Rattle.guest_pages.specs.Cells.{has_none}
 use Rattle.guest_pages.specs.Counting.{count_pages}
 use Rattle.guest_pages.specs.Operations.{stored_pages}
 use Rattle.guest_pages.specs.Tables.{rows_of, cells}
-use Rattle.guest_pages.proofs.RangeFacts.{protect_wanted, protect_ok}
-use Rattle.guest_pages.proofs.UnmappedFacts.{mapped_cells, mapped_room}
+use Rattle.guest_pages.proofs.RangeFacts.{new_rights_marked, protect_wanted, protect_ok}
+use Rattle.guest_pages.proofs.UnmappedFacts.{mapped_cells}
+use Rattle.guest_pages.proofs.WriteFacts.{same_held, sound_same}
 use Rattle.guest_pages.specs.Faults.{first_unmapped}
 use Rattle.guest_pages.proofs.pages.Pages.protect_mapped.Goals as goal
 
-pub returns-then-wanted-gt-MOST-clause-full : goal.returns-then-wanted-gt-MOST-clause-full
-returns-then-wanted-gt-MOST-clause-full c = λ n same.
+pub returns-then-wanted-gt-MOST_PAGES-clause-full : goal.returns-then-wanted-gt-MOST_PAGES-clause-full
+returns-then-wanted-gt-MOST_PAGES-clause-full c = λ n same.
     let sum = subst (λ t. c.wanted_pages-wanted.result + count_pages (cells t) (c.args.at / 4096) c.args.count ≡ c.self.inside.stored + (if not (has_none c.args.rights) then c.args.count else 0)) c.rows.ensures c.wanted_pages-wanted.ensures in
     let wanted = protect_wanted (rows_of c.self.inside.tables) c.self.inside.stored c.args.at c.args.count c.args.rights c.wanted_pages-wanted.result c.args.self.now c.self.invariant c.self.view_is c.requires.aligned c.requires.inside (λ q low high. mapped_cells (rows_of c.self.inside.tables) c.args.at c.args.count c.self.invariant.small c.requires.aligned (ap (λ m. first_unmapped m c.args.at (4096 * c.args.count)) c.self.view_is ∙ c.requires.mapped) q low high) sum in
     let equal : c.wanted_pages-wanted.result ≡ n = cc in
     (sym equal ∙ wanted, omega arith)
 
-pub returns-then-wanted-gt-MOST-clause-many : goal.returns-then-wanted-gt-MOST-clause-many
-returns-then-wanted-gt-MOST-clause-many c = λ more.
+pub returns-then-wanted-gt-MOST_PAGES-clause-many : goal.returns-then-wanted-gt-MOST_PAGES-clause-many
+returns-then-wanted-gt-MOST_PAGES-clause-many c = λ more.
     let sum = subst (λ t. c.wanted_pages-wanted.result + count_pages (cells t) (c.args.at / 4096) c.args.count ≡ c.self.inside.stored + (if not (has_none c.args.rights) then c.args.count else 0)) c.rows.ensures c.wanted_pages-wanted.ensures in
     let wanted = protect_wanted (rows_of c.self.inside.tables) c.self.inside.stored c.args.at c.args.count c.args.rights c.wanted_pages-wanted.result c.args.self.now c.self.invariant c.self.view_is c.requires.aligned c.requires.inside (λ q low high. mapped_cells (rows_of c.self.inside.tables) c.args.at c.args.count c.self.invariant.small c.requires.aligned (ap (λ m. first_unmapped m c.args.at (4096 * c.args.count)) c.self.view_is ∙ c.requires.mapped) q low high) sum in
     ap (λ (n : ℕ). let r : Result (Unit {0}) MapFault = Err (PagesFull n) in r) wanted
@@ -28,7 +29,11 @@ invariant_of-self-in-Ok c =
     let sum = subst (λ t. c.wanted_pages-wanted.result + count_pages (cells t) (c.args.at / 4096) c.args.count ≡ c.self.inside.stored + (if not (has_none c.args.rights) then c.args.count else 0)) c.rows.ensures c.wanted_pages-wanted.ensures in
     let wanted = protect_wanted (rows_of c.self.inside.tables) c.self.inside.stored c.args.at c.args.count c.args.rights c.wanted_pages-wanted.result c.args.self.now c.self.invariant c.self.view_is c.requires.aligned c.requires.inside (λ q low high. mapped_cells (rows_of c.self.inside.tables) c.args.at c.args.count c.self.invariant.small c.requires.aligned (ap (λ m. first_unmapped m c.args.at (4096 * c.args.count)) c.self.view_is ∙ c.requires.mapped) q low high) sum in
     let ok = protect_ok (rows_of c.self.inside.tables) (rows_of c.protect_pages.new.tables) c.self.inside.stored c.args.at c.args.count c.args.rights c.args.self.now c.self.invariant c.self.view_is c.requires.aligned c.in-Ok.ensures.ok in
-    record { small = let size = c.protect_pages.ensures.size in let small = c.self.invariant.small in omega arith; counted = wanted ∙ sym (ap stored_pages ok) }
+    record {
+      small = c.protect_pages.ensures.small c.self.invariant.small;
+      marked = new_rights_marked (rows_of c.self.inside.tables) (rows_of c.protect_pages.new.tables) (4096 * (c.args.at / 4096)) (4096 * c.args.count) c.args.rights c.self.invariant.marked c.protect_pages.ensures.marks c.in-Ok.ensures.ok;
+      counted = wanted ∙ sym (ap stored_pages ok);
+    }
 
 pub returns-in-Err-clause-many : goal.returns-in-Err-clause-many
 returns-in-Err-clause-many c = λ more.
@@ -46,8 +51,10 @@ returns-in-Ok-clause-many c = λ more.
     let wanted = protect_wanted (rows_of c.self.inside.tables) c.self.inside.stored c.args.at c.args.count c.args.rights c.wanted_pages-wanted.result c.args.self.now c.self.invariant c.self.view_is c.requires.aligned c.requires.inside (λ q low high. mapped_cells (rows_of c.self.inside.tables) c.args.at c.args.count c.self.invariant.small c.requires.aligned (ap (λ m. first_unmapped m c.args.at (4096 * c.args.count)) c.self.view_is ∙ c.requires.mapped) q low high) sum in
     absurd (omega arith)
 
-pub protect_pages-requires-clause-room : goal.protect_pages-requires-clause-room
-protect_pages-requires-clause-room c = λ n low high.
-    mapped_room (rows_of c.self.inside.tables) n
-    (mapped_cells (rows_of c.self.inside.tables) c.args.at c.args.count c.self.invariant.small c.requires.aligned
-    (ap (λ m. first_unmapped m c.args.at (4096 * c.args.count)) c.self.view_is ∙ c.requires.mapped) n low high)
+pub invariant_of-self : goal.invariant_of-self
+invariant_of-self c =
+    sound_same (rows_of c.self.inside.tables) (rows_of c.protect_pages.new.tables) c.self.inside.stored c.self.invariant c.protect_pages.ensures.small c.protect_pages.ensures.marks c.in-Err.ensures.err
+
+pub returns-in-Err-clause-err : goal.returns-in-Err-clause-err
+returns-in-Err-clause-err c =
+    same_held (rows_of c.self.inside.tables) (rows_of c.protect_pages.new.tables) c.in-Err.ensures.err ∙ c.self.view_is

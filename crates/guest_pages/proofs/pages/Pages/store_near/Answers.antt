@@ -31,8 +31,8 @@ part c =
 pub invariant_of-self : goal.invariant_of-self
 invariant_of-self c =
     either c.write_near.result _
-    (λ yes. sound_written (rows_of c.self.inside.tables) (rows_of c.write_near.new.tables) c.self.inside.stored c.args.at _ c.self.invariant c.write_near.ensures.size (c.write_near.ensures.done yes))
-    (λ no. sound_same (rows_of c.self.inside.tables) (rows_of c.write_near.new.tables) c.self.inside.stored c.self.invariant c.write_near.ensures.size (c.write_near.ensures.undone no))
+    (λ yes. sound_written (rows_of c.self.inside.tables) (rows_of c.write_near.new.tables) c.self.inside.stored c.args.at _ c.self.invariant c.write_near.ensures.size c.write_near.ensures.marks (c.write_near.ensures.done yes))
+    (λ no. sound_same (rows_of c.self.inside.tables) (rows_of c.write_near.new.tables) c.self.inside.stored c.self.invariant (λ small. let size = c.write_near.ensures.size in omega arith) c.write_near.ensures.marks (c.write_near.ensures.undone no))
 
 pub returns-clause-stored : goal.returns-clause-stored
 returns-clause-stored c = λ yes.

@@ -1,0 +1,17 @@
+pub mod ByteFacts
+pub mod FileFacts
+pub mod CallFacts
+pub mod FillFacts
+pub mod GoneFacts
+pub mod LookFacts
+pub mod MakeFacts
+pub mod MadeFacts
+pub mod NameFacts
+pub mod NodeFacts
+pub mod PathFacts
+pub mod PathLaws
+pub mod PutFacts
+pub mod StayFacts
+pub mod StepFacts
+pub mod TreeFacts
+pub mod WalkFacts

@@ -1,0 +1,9 @@
+-- What the check of UTF-8 answers.
+use Rattle.file_tree.proofs.PathFacts.{text, no_text}
+use Rattle.file_tree.proofs.node.is_text.Goals as goal
+
+pub returns-in-Ok : goal.returns-in-Ok
+returns-in-Ok c = text c.args.bytes.now c.in-Ok.ensures.cases.1
+
+pub returns-in-Err : goal.returns-in-Err
+returns-in-Err c = no_text c.args.bytes.now c.in-Err.ensures.cases.0

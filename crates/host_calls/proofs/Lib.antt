@@ -1,0 +1,4 @@
+pub mod ByteFacts
+pub mod CallsOwe
+pub mod Places
+pub mod Shapes

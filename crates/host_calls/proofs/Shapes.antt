@@ -1,0 +1,276 @@
+-- What each shape of call owes.
+use Rattle.std.proofs.Common.{◌≡◌, ◌⊎◌, ℕ, zero, suc, ◌+◌, ◌-◌, ◌*◌, ◌≤◌, ◌==◌, ◌||◌, Bool, true, false, cond, nat_lt, min, ℤ, pos, List, [], ◌∷◌, ◌++◌, length, Option, Some, None, inl, inr, refl, sym, subst, ap, ◌∙◌, set, get_or, append-nil, arith}
+use Rattle.std.proofs.lemmas.Bool.Decides.{nat_tests}
+use Rattle.std.proofs.lemmas.List.{set-get_or}
+use Rattle.file_tree.specs.declared.errno.Errno.TheVariants.{EBADF}
+use Rattle.guest_pages.specs.declared.fault.PageFault.{PageFault}
+use Rattle.guest_pages.specs.Apart.{IsApart, Stays}
+use Rattle.guest_pages.specs.Cells.{Cell}
+use Rattle.guest_pages.specs.Faults.{changeable, first_fault, readable, writable}
+use Rattle.guest_pages.specs.Finding.{any_cell, any_mapped, free_place, highest_free, is_code, is_mapped, touches_code}
+use Rattle.guest_pages.specs.Limits.{page_size, user_end}
+use Rattle.guest_pages.specs.Operations.{placed, protected, unmapped, written}
+use Rattle.guest_pages.specs.Random.{random_bytes}
+use Rattle.guest_pages.specs.Ranges.{Range, cell_at}
+use Rattle.guest_pages.proofs.ApartFacts.{placed_stays, protected_stays, same_stays, unmapped_stays, written_stays}
+use Rattle.word_memory.specs.declared.reservations.Held.{Held}
+use Rattle.word_memory.specs.Reservations.{reserving, stored_to, touches, unless_touched, with_reservation}
+use Rattle.host_calls.specs.Answers.{Answered, Refusal, answers, refuses, stored, stored_unless, unless, unreserved}
+use Rattle.host_calls.specs.Breaks.{most_break, pages_of, rounded_up}
+use Rattle.host_calls.specs.Descriptors.{write, written_out}
+use Rattle.host_calls.specs.Identity.{drew, getrandom, limit_refusals, limits, prlimit64, told_limit}
+use Rattle.host_calls.specs.Maps.{anywhere_refusals, brk, fixed_refusals, is_fixed, is_outside, lowered, mapped_anywhere, mapped_at, mapped_fixed, mapped_free, mapped_refusals, mmap, mmap_refusals, mprotect, mprotect_refusals, munmap, munmap_refusals, part_inside, raised, rights_of, same_break, too_many, with_break, with_memory}
+use Rattle.host_calls.specs.Owes.{Ended, Grows, OnlyEnd, Owes}
+use Rattle.host_calls.specs.Queue.{OnlySends, Queue}
+use Rattle.host_calls.specs.Shared.{Files, Shared, with_output}
+use Rattle.host_calls.specs.Time.{clock_gettime, clock_refusals, time_bytes}
+
+-- ---- parts
+
+pub same_grows : (old new : List (List ℕ)) → new ≡ old → Grows old new
+same_grows old new same = record {
+  device = 0;
+  more = [];
+  grown = same ∙ sym (ap (λ bytes. set old 0 bytes) (append-nil (get_or old 0 [])) ∙ set-get_or old 0 []);
+}
+
+pub same_sends : (old new : Queue) → new ≡ old → OnlySends old new
+same_sends old new same = record {
+  sent = [];
+  pending = ap (λ (queue : Queue). queue.pending) same ∙ sym (append-nil old.pending);
+  ids = ap (λ (queue : Queue). queue.next_id) same;
+}
+
+ended_by : (own : Bool) (thread : ℕ) (held : Held) → (held.thread == thread) ≡ own → Ended thread held (cond own (record { thread = held.thread; reserved = None }) held)
+ended_by true thread held is = (refl, inl refl)
+ended_by false thread held is = (refl, inr (refl, is))
+
+pub own_ends : (thread : ℕ) (held : List Held) → OnlyEnd thread held (reserving thread None held)
+unfolding reserving
+own_ends thread [] = tt
+own_ends thread (first ∷ held) = (ended_by (first.thread == thread) thread first refl, own_ends thread held)
+
+touched_by : (test : Bool) (start size : ℕ) (reserved : Option ℕ) → (unless_touched start size reserved ≡ None) ⊎ (unless_touched start size reserved ≡ reserved)
+touched_by test start size None = inl refl
+touched_by test start size (Some at) = either_way (touches start size at)
+  where
+    either_way : (touched : Bool) → (cond touched None (Some at) ≡ None) ⊎ (cond touched None (Some at) ≡ Some at)
+    either_way true = inl refl
+    either_way false = inr refl
+
+store_ended : (own : Bool) (thread start size : ℕ) (held : Held) → (held.thread == thread) ≡ own → Ended thread held (with_reservation thread None (cond own held (record { thread = held.thread; reserved = unless_touched start size held.reserved })))
+store_ended true thread start size held is = rw is (refl, inl refl)
+store_ended false thread start size held is = rw is (
+  refl,
+  elim (touched_by false start size held.reserved) [
+    | inl none ↦ inl none
+    | inr same ↦ inr (same, refl)
+  ],
+)
+
+-- where the thread stored before its reservation ended
+pub stores_end : (thread start size : ℕ) (held : List Held) → OnlyEnd thread held (reserving thread None (stored_to thread start size held))
+unfolding reserving stored_to
+stores_end thread start size [] = tt
+stores_end thread start size (first ∷ held) = (store_ended (first.thread == thread) thread start size first refl, stores_end thread start size held)
+
+-- ---- shapes
+
+-- it answers, and changes nothing
+pub answers_alone : (thread : ℕ) (shared : Shared) → Owes thread shared (unreserved thread shared)
+answers_alone thread shared = record {
+  memory = λ apart. same_stays shared.memory shared.memory apart refl;
+  outputs = same_grows shared.files.outputs shared.files.outputs refl;
+  held = own_ends thread shared.held;
+  queue = same_sends shared.queue shared.queue refl;
+  clock = refl;
+}
+
+-- it changes memory, and stores nothing that others may have reserved
+pub changes_memory : (thread : ℕ) (old new : Shared) → (IsApart old.memory → Stays old.memory new.memory) → new.held ≡ old.held → new.files ≡ old.files → new.queue ≡ old.queue → new.clock ≡ old.clock → Owes thread old (unreserved thread new)
+changes_memory thread old new stays held files queue clock = record {
+  memory = stays;
+  outputs = same_grows old.files.outputs new.files.outputs (ap (λ (f : Files). f.outputs) files);
+  held = subst (λ (h : List Held). OnlyEnd thread old.held (reserving thread None h)) (sym held) (own_ends thread old.held);
+  queue = same_sends old.queue new.queue queue;
+  clock = clock;
+}
+
+-- it stores bytes, which may end reservations of others
+pub stores_bytes : (thread at : ℕ) (bytes : List ℕ) (old new : Shared) → first_fault writable old.memory at (length bytes) ≡ None → new.memory ≡ written at bytes old.memory → new.held ≡ stored_to thread at (length bytes) old.held → new.files ≡ old.files → new.queue ≡ old.queue → new.clock ≡ old.clock → Owes thread old (unreserved thread new)
+stores_bytes thread at bytes old new good memory held files queue clock = record {
+  memory = λ apart. subst (Stays old.memory) (sym memory) (written_stays at bytes old.memory apart good);
+  outputs = same_grows old.files.outputs new.files.outputs (ap (λ (f : Files). f.outputs) files);
+  held = subst (λ (h : List Held). OnlyEnd thread old.held (reserving thread None h)) (sym held) (stores_end thread at (length bytes) old.held);
+  queue = same_sends old.queue new.queue queue;
+  clock = clock;
+}
+
+-- it puts bytes behind an output
+pub writes_out : (thread device : ℕ) (bytes : List ℕ) (shared : Shared) → Owes thread shared (unreserved thread (record shared { files = record shared.files { outputs = with_output device bytes shared.files.outputs } }))
+writes_out thread device bytes shared = record {
+  memory = λ apart. same_stays shared.memory shared.memory apart refl;
+  outputs = record { device = device; more = bytes; grown = refl };
+  held = own_ends thread shared.held;
+  queue = same_sends shared.queue shared.queue refl;
+  clock = refl;
+}
+
+-- ---- by cases
+
+pub either_owes : (test : Bool) (thread : ℕ) (shared : Shared) (one other : Answered) → (test ≡ true → Owes thread shared (unreserved thread one.shared)) → (test ≡ false → Owes thread shared (unreserved thread other.shared)) → Owes thread shared (unreserved thread (cond test one other).shared)
+either_owes true thread shared one other this that = this refl
+either_owes false thread shared one other this that = that refl
+
+-- no test of them holds
+abbrev pub Passes : List Refusal → Type 0
+Passes [] = Unit {0}
+Passes (first ∷ refusals) = (first.holds ≡ false) × Passes refusals
+
+-- what is refused answers alone
+pub unless_owes : (refusals : List Refusal) (thread : ℕ) (shared : Shared) (answered : Answered) → (Passes refusals → Owes thread shared (unreserved thread answered.shared)) → Owes thread shared (unreserved thread (unless refusals shared answered).shared)
+unless_owes [] thread shared answered made = made tt
+unless_owes (first ∷ refusals) thread shared answered made =
+    either_owes first.holds thread shared (refuses first.errno shared) (unless refusals shared answered) (λ refused. answers_alone thread shared)
+    (λ passed. unless_owes refusals thread shared answered (λ passes. made (passed, passes)))
+
+-- ---- descriptors
+
+written_owes : (bad : Option PageFault) (thread device at count : ℕ) (shared : Shared) → Owes thread shared (unreserved thread (written_out bad device at count shared).shared)
+written_owes (Some bad) thread device at count shared = answers_alone thread shared
+written_owes None thread device at count shared = writes_out thread device _ shared
+
+pub writes : (thread descriptor at wish : ℕ) (shared : Shared) → Owes thread shared (unreserved thread (write descriptor at wish shared).shared)
+unfolding write
+writes thread descriptor at wish shared =
+    either_owes (nat_lt descriptor (length shared.files.outputs)) thread shared
+    (written_out (first_fault readable shared.memory at (min wish 1048576)) descriptor at (min wish 1048576) shared) (refuses EBADF shared)
+    (λ named. written_owes (first_fault readable shared.memory at (min wish 1048576)) thread descriptor at (min wish 1048576) shared) (λ unnamed. answers_alone thread shared)
+
+-- ---- stores
+
+stored_owes : (bad : Option PageFault) (thread at : ℕ) (bytes : List ℕ) (answer : ℤ) (shared : Shared) → first_fault writable shared.memory at (length bytes) ≡ bad → Owes thread shared (unreserved thread (stored_unless bad thread at bytes answer shared).shared)
+stored_owes (Some bad) thread at bytes answer shared is = answers_alone thread shared
+stored_owes None thread at bytes answer shared is = stores_bytes thread at bytes shared (stored_unless None thread at bytes answer shared).shared is refl refl refl refl refl
+
+pub stores : (thread at : ℕ) (bytes : List ℕ) (answer : ℤ) (shared : Shared) → Owes thread shared (unreserved thread (stored thread at bytes answer shared).shared)
+unfolding stored
+stores thread at bytes answer shared = stored_owes (first_fault writable shared.memory at (length bytes)) thread at bytes answer shared refl
+
+pub tells_time : (thread clock at : ℕ) (shared : Shared) → Owes thread shared (unreserved thread (clock_gettime thread clock at shared).shared)
+unfolding clock_gettime
+tells_time thread clock at shared = unless_owes (clock_refusals clock) thread shared (stored thread at (time_bytes shared.clock) (pos 0) shared) (λ passes. stores thread at _ _ shared)
+
+pub tells_limit : (thread pid resource new old : ℕ) (shared : Shared) → Owes thread shared (unreserved thread (prlimit64 thread pid resource new old shared).shared)
+unfolding prlimit64
+tells_limit thread pid resource new old shared = unless_owes (limit_refusals pid new old shared) thread shared (told_limit thread resource old shared)
+    (λ passes. either_owes (old == 0) thread shared (answers (pos 0) shared) (stored thread old (limits resource) (pos 0) shared) (λ none. answers_alone thread shared) (λ some. stores thread old _ _ shared))
+
+drew_owes : (bad : Option PageFault) (thread at : ℕ) (bytes : List ℕ) (shared : Shared) → first_fault writable shared.memory at (length bytes) ≡ bad → Owes thread shared (unreserved thread (drew bad thread at bytes shared).shared)
+drew_owes (Some bad) thread at bytes shared is = answers_alone thread shared
+drew_owes None thread at bytes shared is = stores_bytes thread at bytes shared (drew None thread at bytes shared).shared is refl refl refl refl refl
+
+pub draws : (thread at wish : ℕ) (shared : Shared) → Owes thread shared (unreserved thread (getrandom thread at wish shared).shared)
+unfolding getrandom
+draws thread at wish shared =
+    let bytes = random_bytes shared.drawn (min wish 256) in
+    drew_owes (first_fault writable shared.memory at (length bytes)) thread at bytes shared refl
+
+-- ---- maps
+
+pub unmaps : (thread at size : ℕ) (shared : Shared) → Owes thread shared (unreserved thread (munmap at size shared).shared)
+unfolding munmap
+unmaps thread at size shared = unless_owes (munmap_refusals at size shared) thread shared (answers (pos 0) (with_memory (unmapped at (rounded_up size) shared.memory) shared))
+    (λ passes. changes_memory thread shared (with_memory (unmapped at (rounded_up size) shared.memory) shared) (unmapped_stays at (rounded_up size) shared.memory passes.1.0) refl refl refl refl)
+
+-- a range within user addresses lies whole within them
+whole_inside : (at size : ℕ) → is_outside at size ≡ false → part_inside at size ≡ size
+whole_inside at size inside = let low : at + size ≤ user_end = grind (arith, nat_tests) in omega (arith, low)
+
+no_code_whole : (memory : List Range) (at size : ℕ) → touches_code memory at (part_inside at size) ≡ false → is_outside at size ≡ false → touches_code memory at size ≡ false
+no_code_whole memory at size none inside = subst (λ (n : ℕ). touches_code memory at n ≡ false) (whole_inside at size inside) none
+
+pub protects : (thread at size protection : ℕ) (shared : Shared) → Owes thread shared (unreserved thread (mprotect at size protection shared).shared)
+unfolding mprotect
+protects thread at size protection shared = unless_owes (mprotect_refusals at (rounded_up size) protection shared) thread shared (answers (pos 0) (with_memory (protected at (rounded_up size) (rights_of protection) shared.memory) shared))
+    (λ passes. changes_memory thread shared (with_memory (protected at (rounded_up size) (rights_of protection) shared.memory) shared)
+    (protected_stays at (rounded_up size) (rights_of protection) shared.memory refl (no_code_whole shared.memory at (rounded_up size) passes.1.1.0 passes.1.1.1.0)) refl refl refl refl)
+
+mapped_owes : (thread at size protection : ℕ) (shared : Shared) → touches_code shared.memory at size ≡ false → Owes thread shared (unreserved thread (mapped_at at size (rights_of protection) shared).shared)
+mapped_owes thread at size protection shared none = unless_owes (mapped_refusals at size (rights_of protection) shared) thread shared (answers (pos at) (with_memory (placed at size (rights_of protection) shared.memory) shared))
+    (λ passes. changes_memory thread shared (with_memory (placed at size (rights_of protection) shared.memory) shared) (placed_stays at size (rights_of protection) shared.memory refl none) refl refl refl refl)
+
+fixed_owes : (thread at size protection flags : ℕ) (shared : Shared) → Owes thread shared (unreserved thread (mapped_fixed at size (rights_of protection) flags shared).shared)
+unfolding mapped_fixed
+fixed_owes thread at size protection flags shared = unless_owes (fixed_refusals at size flags shared) thread shared (mapped_at at size (rights_of protection) shared)
+    (λ passes. mapped_owes thread at size protection shared (no_code_whole shared.memory at size passes.1.1.0 passes.1.1.1.0))
+
+no_map_cell : (o : Option Cell) → is_mapped o ≡ false → is_code o ≡ false
+no_map_cell None none = refl
+no_map_cell (Some c) none = cc
+
+-- what isn't mapped is no code
+no_map_no_code : (memory : List Range) (at size : ℕ) → any_mapped memory at size ≡ false → touches_code memory at size ≡ false
+unfolding any_cell
+no_map_no_code memory at zero none = refl
+no_map_no_code memory at (suc size) none = both_by (is_mapped (cell_at memory at)) (any_mapped memory (at + 1) size) (cell_at memory at) refl (no_map_no_code memory (at + 1) size) none
+  where
+    both_by : (here rest : Bool) (o : Option Cell) → is_mapped o ≡ here → (rest ≡ false → touches_code memory (at + 1) size ≡ false) → (here || rest) ≡ false → (is_code o || touches_code memory (at + 1) size) ≡ false
+    both_by true rest o is later none = cc
+    both_by false rest o is later none = rw (no_map_cell o is, later none) refl
+
+found_by : (mapped : Bool) (memory : List Range) (count page at : ℕ) → any_mapped memory (4096 * page) (4096 * count) ≡ mapped → (highest_free memory count page ≡ Some at → any_mapped memory at (4096 * count) ≡ false) → cond mapped (highest_free memory count page) (Some (4096 * page)) ≡ Some at → any_mapped memory at (4096 * count) ≡ false
+found_by true memory count page at is later same = later same
+found_by false memory count page at is later same = let here : 4096 * page ≡ at = cc in rw (← here) is
+
+highest_is_free : (memory : List Range) (count pages at : ℕ) → highest_free memory count pages ≡ Some at → any_mapped memory at (4096 * count) ≡ false
+unfolding highest_free
+highest_is_free memory count zero at same = cc
+highest_is_free memory count (suc page) at same =
+    found_by (any_mapped memory (4096 * page) (4096 * count)) memory count page at refl (highest_is_free memory count page at) same
+
+free_owes : (place : Option ℕ) (thread count protection : ℕ) (shared : Shared) → free_place shared.memory count ≡ place → Owes thread shared (unreserved thread (mapped_free place (page_size * count) (rights_of protection) shared).shared)
+free_owes None thread count protection shared is = answers_alone thread shared
+free_owes (Some at) thread count protection shared is =
+    mapped_owes thread at (page_size * count) protection shared (no_map_no_code shared.memory at (4096 * count) (highest_is_free shared.memory count _ at is))
+
+anywhere_owes : (thread count protection flags : ℕ) (shared : Shared) → Owes thread shared (unreserved thread (mapped_anywhere count (rights_of protection) flags shared).shared)
+unfolding mapped_anywhere
+anywhere_owes thread count protection flags shared = unless_owes (anywhere_refusals flags) thread shared (mapped_free (free_place shared.memory count) (page_size * count) (rights_of protection) shared) (λ passes. free_owes (free_place shared.memory count) thread count protection shared refl)
+
+pub maps : (thread at size protection flags descriptor offset : ℕ) (shared : Shared) → Owes thread shared (unreserved thread (mmap at size protection flags descriptor offset shared).shared)
+unfolding mmap
+maps thread at size protection flags descriptor offset shared = unless_owes (mmap_refusals at size protection flags descriptor offset shared) thread shared (cond (is_fixed flags) (mapped_fixed at (rounded_up size) (rights_of protection) flags shared) (mapped_anywhere (pages_of size) (rights_of protection) flags shared))
+    (λ passes. either_owes (is_fixed flags) thread shared (mapped_fixed at (rounded_up size) (rights_of protection) flags shared) (mapped_anywhere (pages_of size) (rights_of protection) flags shared)
+    (λ fixed. fixed_owes thread at (rounded_up size) protection flags shared) (λ free. anywhere_owes thread (pages_of size) protection flags shared))
+
+-- ---- the break
+
+first_false : (one other : Bool) → (one || other) ≡ false → one ≡ false
+first_false false other none = refl
+first_false true other none = cc
+
+raised_owes : (thread address from size : ℕ) (shared : Shared) → Owes thread shared (unreserved thread (raised address from size shared).shared)
+unfolding raised
+raised_owes thread address from size shared =
+    either_owes (any_mapped shared.memory from size || too_many (placed from size changeable shared.memory)) thread shared (same_break shared)
+    (answers (pos address) (with_break address (placed from size changeable shared.memory) shared)) (λ refused. answers_alone thread shared)
+    (λ free. changes_memory thread shared (with_break address (placed from size changeable shared.memory) shared) (placed_stays from size changeable shared.memory refl (no_map_no_code shared.memory from size (first_false _ _ free))) refl refl refl refl)
+
+lowered_owes : (thread address from size : ℕ) (shared : Shared) → Owes thread shared (unreserved thread (lowered address from size shared).shared)
+unfolding lowered
+lowered_owes thread address from size shared =
+    either_owes (touches_code shared.memory from size) thread shared (same_break shared)
+    (answers (pos address) (with_break address (unmapped from size shared.memory) shared)) (λ code. answers_alone thread shared)
+    (λ none. changes_memory thread shared (with_break address (unmapped from size shared.memory) shared) (unmapped_stays from size shared.memory none) refl refl refl refl)
+
+pub moves_break : (thread wish : ℕ) (shared : Shared) → Owes thread shared (unreserved thread (brk wish shared).shared)
+unfolding brk
+moves_break thread wish shared =
+    let first = shared.program_break.first in
+    let old = rounded_up shared.program_break.present in
+    let new = rounded_up wish in
+    either_owes (nat_lt wish first || nat_lt (first + most_break) wish) thread shared (same_break shared)
+    (cond (nat_lt old new) (raised wish old (new - old) shared) (lowered wish new (old - new) shared)) (λ out. answers_alone thread shared)
+    (λ within. either_owes (nat_lt old new) thread shared (raised wish old (new - old) shared) (lowered wish new (old - new) shared)
+    (λ up. raised_owes thread wish old (new - old) shared) (λ down. lowered_owes thread wish new (old - new) shared))

@@ -1,0 +1,12 @@
+pub mod Answers
+pub mod Breaks
+pub mod Descriptors
+pub mod Host
+pub mod Identity
+pub mod Immediate
+pub mod Maps
+pub mod Marks
+pub mod Owes
+pub mod Queue
+pub mod Shared
+pub mod Time

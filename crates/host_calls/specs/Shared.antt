@@ -1,0 +1,40 @@
+-- What a system has beside its threads: a Linux process has it, and calls change it. A field is the record of its owner.
+-- Source: signal(7), open(2) and the manual pages of the calls; virtual time, which goes on by 100 ns at a step, is the
+-- project's own.
+use Rattle.std.specs.Prelude.{ℕ, ◌+◌, ◌-◌, ◌^◌, ◌++◌, [], min, List, slice_set, slice_index_or}
+use Rattle.guest_pages.specs.Ranges.{Range}
+use Rattle.word_memory.specs.declared.reservations.Held.{Held}
+use Rattle.host_calls.specs.Queue.{Queue}
+
+-- what descriptors lead to
+pub record Files : Type 0 where
+  -- what was written to each device
+  pub outputs : List (List ℕ)
+
+-- the program's break: where it can begin, on a page's boundary, and where it is
+pub record ProgramBreak : Type 0 where
+  pub first : ℕ
+  pub present : ℕ
+
+pub record Shared : Type 0 where
+  pub memory : List Range
+  -- the reservations of threads
+  pub held : List Held
+  pub files : Files
+  pub queue : Queue
+  pub program_break : ProgramBreak
+  -- how many random bytes were drawn
+  pub drawn : ℕ
+  -- in nanoseconds
+  pub clock : ℕ
+
+-- bytes behind a device's output
+abbrev pub with_output : ℕ → List ℕ → List (List ℕ) → List (List ℕ)
+with_output device bytes outputs = slice_set outputs device (slice_index_or outputs device [] ++ bytes)
+
+-- time goes on by 100 ns, at most to its type's end
+abbrev pub later_clock : ℕ → ℕ
+later_clock clock = min (clock + 100) (2 ^ 64 - 1)
+
+abbrev pub later : Shared → Shared
+later shared = record shared { clock = later_clock shared.clock }

@@ -1,0 +1,106 @@
+//! The one dispatch over all calls.
+
+ghost use Rattle.std.specs.Prelude.{◌≡◌, IfOk, OnErr};
+ghost use Rattle.host_calls.specs.Host.{gives, shared_of};
+ghost use Rattle.host_calls.specs.Immediate.{immediate as answer_of, made};
+ghost use Rattle.host_calls.specs.Owes.{Owes};
+
+use crate::host::Host;
+use call_table::{Call, CallNo};
+use file_tree::Errno;
+use std::alloc::AllocError;
+
+/// Makes a call of a thread that doesn't wait, and gives its answer, or the negated number of its error. It ends the
+/// thread's reservation. After want of memory all is as before. A call that isn't there yet answers `ENOSYS`, and so do
+/// those that make and end threads. It costs by the bytes that the call names.
+///
+/// References: syscall(2), and the manual page of each call.
+pub fn immediate(host: &mut Host, thread: u32, call: &Call) -> Result<i64, AllocError>
+    ensures answer { IfOk result (λ answer. gives answer host.new ≡ answer_of thread call.now (shared_of host.old)) }
+    ensures owes { IfOk result (λ answer. Owes thread (shared_of host.old) (shared_of host.new)) }
+    ensures noted { host.new.pending.noted ≡ host.old.pending.noted }
+    ensures err { OnErr result (host.new ≡ host.old) }
+{
+    host.answer(thread, call)
+}
+
+impl Host {
+    #[tactic(auto, unfolding(crate::specs::Immediate::immediate))]
+    fn answer(&mut self, thread: u32, call: &Call) -> Result<i64, AllocError>
+        ensures answer { IfOk result (λ answer. gives answer self.new ≡ answer_of thread call.now (shared_of self.old)) }
+        ensures noted { self.new.pending.noted ≡ self.old.pending.noted }
+        ensures err { OnErr result (self.new ≡ self.old) }
+    {
+        let answer = self.make(thread, call)?;
+        self.held.end(thread);
+        Ok(answer)
+    }
+
+    fn make(&mut self, thread: u32, call: &Call) -> Result<i64, AllocError>
+        ensures answer { IfOk result (λ answer. gives answer self.new ≡ made call.now.no thread call.now.args (shared_of self.old)) }
+        ensures noted { self.new.pending.noted ≡ self.old.pending.noted }
+        ensures err { OnErr result (self.new ≡ self.old) }
+    {
+        let [a0, a1, a2, a3, a4, a5] = call.args;
+        match call.no {
+            CallNo::Write => self.write(a0, a1, a2),
+            CallNo::ClockGettime => self.clock_gettime(thread, a0, a1),
+            CallNo::SchedYield => Ok(self.sched_yield()),
+            CallNo::Uname => self.uname(thread, a0),
+            CallNo::Getpid => Ok(self.getpid()),
+            CallNo::Getuid => Ok(self.user()),
+            CallNo::Geteuid => Ok(self.user()),
+            CallNo::Getgid => Ok(self.user()),
+            CallNo::Getegid => Ok(self.user()),
+            CallNo::Gettid => Ok(self.gettid(thread)),
+            CallNo::Brk => self.brk(a0),
+            CallNo::Munmap => Ok(self.munmap(a0, a1)),
+            CallNo::Mmap => self.mmap(a0, a1, a2, a3, a4, a5),
+            CallNo::Mprotect => self.mprotect(a0, a1, a2),
+            CallNo::Prlimit64 => self.prlimit64(thread, a0, a1, a2, a3),
+            CallNo::Getrandom => self.getrandom(thread, a0, a1),
+            CallNo::Dup
+            | CallNo::Dup3
+            | CallNo::Fcntl
+            | CallNo::Ioctl
+            | CallNo::Mkdirat
+            | CallNo::Unlinkat
+            | CallNo::Ftruncate
+            | CallNo::Openat
+            | CallNo::Close
+            | CallNo::Pipe2
+            | CallNo::Getdents64
+            | CallNo::Lseek
+            | CallNo::Read
+            | CallNo::Readv
+            | CallNo::Writev
+            | CallNo::Pread64
+            | CallNo::Pwrite64
+            | CallNo::Ppoll
+            | CallNo::Readlinkat
+            | CallNo::Newfstatat
+            | CallNo::Fstat
+            | CallNo::Exit
+            | CallNo::ExitGroup
+            | CallNo::SetTidAddress
+            | CallNo::Futex
+            | CallNo::SetRobustList
+            | CallNo::Nanosleep
+            | CallNo::Setitimer
+            | CallNo::ClockNanosleep
+            | CallNo::Kill
+            | CallNo::Tkill
+            | CallNo::Tgkill
+            | CallNo::Sigaltstack
+            | CallNo::RtSigsuspend
+            | CallNo::RtSigaction
+            | CallNo::RtSigprocmask
+            | CallNo::RtSigpending
+            | CallNo::RtSigtimedwait
+            | CallNo::RtSigqueueinfo
+            | CallNo::RtSigreturn
+            | CallNo::Clone
+            | CallNo::RtTgsigqueueinfo => Ok(-Errno::ENOSYS.code()),
+        }
+    }
+}

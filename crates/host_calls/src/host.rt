@@ -1,0 +1,31 @@
+ghost use Rattle.std.specs.Prelude.{◌≡◌};
+ghost use Rattle.host_calls.specs.Shared.{later_clock};
+
+use crate::breaks::Break;
+use crate::outputs::Outputs;
+use crate::queue::Pending;
+use guest_pages::Pages;
+use word_memory::Reservations;
+
+/// What the system has beside its threads.
+#[derive(Drop)]
+pub struct Host {
+    pub pages: Pages,
+    pub held: Reservations,
+    pub outputs: Outputs,
+    pub pending: Pending,
+    pub program_break: Break,
+    /// How many random bytes were drawn, modulo 2^64.
+    pub drawn: u64,
+    /// In nanoseconds.
+    pub clock: u64,
+}
+
+impl Host {
+    /// Time goes on by 100 ns, at most to its type's end.
+    pub fn tick(&mut self)
+        ensures { self.new ≡ record self.old { clock = later_clock self.old.clock } }
+    {
+        self.clock = self.clock.saturating_add(100);
+    }
+}

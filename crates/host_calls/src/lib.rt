@@ -1,0 +1,42 @@
+//! What a system has beside its threads, and the system calls that don't wait.
+//!
+//! # Model
+//!
+//! `Host` is seen as `Shared` (`shared_of`): the memory, the reservations, what was written to each device, the pending
+//! signals with the next id, the clock. Each field is the record of its owner. Marks on pending signals, which only the
+//! emulator has, are seen beside it.
+//!
+//! A call is one definition and one function, in the file of its family (`specs/Identity.antt` and `src/identity.rt`, and so
+//! on), with its manual page. One dispatch in `specs/Immediate.antt` and one in `src/calls.rt` choose it by its name; it
+//! takes the call's arguments, and never registers. `Answered` is its answer with what the system has afterwards.
+//!
+//! # What the layer above knows
+//!
+//! `immediate` makes exactly the definition of that name. What every call owes is one record (`Owes`): the code stays, nothing
+//! can be both written and executed, outputs only grow and at most one does, reservations only end, of pending signals it only
+//! sends more, and no time passes. So neither the core nor the process machine names a call that is made here.
+//!
+//! # Sources
+//!
+//! The manual pages of the calls, signal(7) and errno(3).
+#![tactic(auto)]
+
+mod breaks;
+mod calls;
+mod descriptors;
+mod host;
+mod identity;
+mod maps;
+mod outputs;
+mod queue;
+mod storing;
+mod time;
+
+pub use breaks::Break;
+pub use calls::immediate;
+pub use host::Host;
+pub use outputs::Outputs;
+pub use queue::{Instance, Pending};
+
+#[cfg(test)]
+mod tests;

@@ -1,0 +1,187 @@
+use super::*;
+use call_table::{Call, CallNo};
+use guest_pages::{CHANGEABLE, Pages, RUNNABLE, Width};
+use std::alloc::Global;
+use std::test::Fail;
+use word_memory::Reservations;
+
+const THREAD: u32 = 1000;
+
+/// A system with two devices, whose memory has `hi` at 0x10000, nothing from 0x11000 on, and code at 0x15000.
+fn host(alloc: Global) -> Result<Host, Fail> {
+    let mut pages = Pages::new();
+    if pages.map(alloc, 0x1_0000, 1, CHANGEABLE).is_err() {
+        return Err("a page is mapped")?;
+    }
+    if pages.copy_in(0x1_0000, b"hi").is_err() {
+        return Err("its bytes are there")?;
+    }
+    if pages.map(alloc, 0x1_5000, 1, RUNNABLE).is_err() {
+        return Err("code is mapped")?;
+    }
+    Ok(Host {
+        pages,
+        held: Reservations::new(alloc),
+        outputs: Outputs::new(alloc, 2)?,
+        pending: Pending::new(),
+        program_break: Break::behind(0x1_F001),
+        drawn: 16,
+        clock: 0,
+    })
+}
+
+fn answer(host: &mut Host, no: CallNo, args: [u64; 6]) -> Result<i64, Fail> {
+    let call = Call { no, args };
+    Ok(immediate(host, THREAD, &call)?)
+}
+
+const ALL_ONES: u64 = u64::MAX;
+
+/// The lowest address that isn't a user address.
+const END: u64 = 0x40_0000_0000;
+
+/// Private and anonymous, and with a fixed place.
+const PRIVATE: u64 = 0x22;
+
+const FIXED: u64 = 0x32;
+
+#[test]
+fn calls_answer_as_their_pages_say(rt: HostRuntime) -> Result<(), Fail> {
+    let mut host = host(rt.alloc())?;
+    let table = [
+        (CallNo::Getpid, [0; 6], 1000),
+        (CallNo::Gettid, [0; 6], 1000),
+        (CallNo::Getuid, [0; 6], 1000),
+        (CallNo::Geteuid, [0; 6], 1000),
+        (CallNo::Getgid, [0; 6], 1000),
+        (CallNo::Getegid, [0; 6], 1000),
+        (CallNo::SchedYield, [0; 6], 0),
+        (CallNo::Write, [1, 0x1_0000, 2, 0, 0, 0], 2),
+        // the descriptor goes before the address
+        (CallNo::Write, [2, 0x1_1000, 1, 0, 0, 0], -9),
+        (CallNo::Write, [ALL_ONES, 0x1_0000, 1, 0, 0, 0], -9),
+        (CallNo::Write, [1, 0x1_1000, 1, 0, 0, 0], -14),
+        (CallNo::Write, [1, 0x1_0FFF, 2, 0, 0, 0], -14),
+        // no byte is read of an address
+        (CallNo::Write, [0, 0x1_1000, 0, 0, 0, 0], 0),
+        // a clock that isn't there goes before an address that can't be written
+        (CallNo::ClockGettime, [1, 0x1_0010, 0, 0, 0, 0], 0),
+        (CallNo::ClockGettime, [2, 0, 0, 0, 0, 0], -22),
+        (CallNo::ClockGettime, [0, 0x1_0FF1, 0, 0, 0, 0], -14),
+        (CallNo::Uname, [0x1_0100, 0, 0, 0, 0, 0], 0),
+        (CallNo::Uname, [0x1_0F00, 0, 0, 0, 0, 0], -14),
+        // a bad address, then another process, then a new limit
+        (CallNo::Prlimit64, [0, 3, 0, 0x1_0400, 0, 0], 0),
+        (CallNo::Prlimit64, [1000, 7, 0, 0, 0, 0], 0),
+        (CallNo::Prlimit64, [1, 3, 8, 0x1_0FF1, 0, 0], -14),
+        (CallNo::Prlimit64, [1, 3, 8, 0, 0, 0], -3),
+        (CallNo::Prlimit64, [0, 3, 8, 0, 0, 0], -1),
+        (CallNo::Getrandom, [0x1_0500, 2, 0, 0, 0, 0], 2),
+        (CallNo::Getrandom, [0x1_0600, 1000, 0, 0, 0, 0], 256),
+        (CallNo::Getrandom, [0x1_0FFF, 2, 0, 0, 0, 0], -14),
+        // calls that aren't there yet
+        (CallNo::Openat, [0; 6], -38),
+        (CallNo::Clone, [0; 6], -38),
+    ];
+    for (no, args, wanted) in table {
+        assert_eq!(rt; answer(&mut host, no, args)?, wanted, "{no:?}");
+    }
+    // the random bytes go on behind the 16 of the stack: 167 k + 13 modulo 256 for k = 16 and 17
+    assert_eq!(rt; host.pages.load(0x1_0500, Width::Two), Ok(0x247D));
+    assert_eq!(rt; host.pages.load(0x1_0400, Width::Eight), Ok(8_388_608));
+    let Host { outputs, .. } = host;
+    if outputs.len() > 1 {
+        assert_eq!(rt; outputs.get(1), b"hi".as_slice());
+        assert_eq!(rt; outputs.get(0), [].as_slice());
+    } else {
+        assert!(rt; false);
+    }
+    Ok(())
+}
+
+#[test]
+fn maps_and_the_break_by_their_edges(rt: HostRuntime) -> Result<(), Fail> {
+    let mut host = host(rt.alloc())?;
+    let table = [
+        // the break: asked for, raised and lowered, and kept where the wish is out of its 64 MiB
+        (CallNo::Brk, [0, 0, 0, 0, 0, 0], 0x2_0000),
+        (CallNo::Brk, [0x2_2001, 0, 0, 0, 0, 0], 0x2_2001),
+        (CallNo::Brk, [0x1_FFFF, 0, 0, 0, 0, 0], 0x2_2001),
+        (CallNo::Brk, [0x402_0000, 0, 0, 0, 0, 0], 0x402_0000),
+        (CallNo::Brk, [0x402_0001, 0, 0, 0, 0, 0], 0x402_0000),
+        (CallNo::Brk, [0x2_0000, 0, 0, 0, 0, 0], 0x2_0000),
+        // over a page that isn't free
+        (CallNo::Mmap, [0x2_1000, 1, 3, FIXED, ALL_ONES, 0], 0x2_1000),
+        (CallNo::Brk, [0x2_1001, 0, 0, 0, 0, 0], 0x2_0000),
+        (CallNo::Brk, [0x2_1000, 0, 0, 0, 0, 0], 0x2_1000),
+        // three maps of a thread's stack, each below the last one
+        (
+            CallNo::Mmap,
+            [0, 8_392_704, 0, PRIVATE, ALL_ONES, 0],
+            0x3E_FF7F_F000,
+        ),
+        (
+            CallNo::Mmap,
+            [0, 8_392_704, 0, PRIVATE, ALL_ONES, 0],
+            0x3E_FEFF_E000,
+        ),
+        // a hint is passed over
+        (
+            CallNo::Mmap,
+            [0x5_0000, 8_392_704, 0, PRIVATE, ALL_ONES, 0],
+            0x3E_FE7F_D000,
+        ),
+        (CallNo::Mprotect, [0x3E_FF80_0000, 8_388_608, 3, 0, 0, 0], 0),
+        // no length, flags of neither or of both kinds, offsets and places that aren't whole pages
+        (CallNo::Mmap, [0, 0, 3, PRIVATE, ALL_ONES, 0], -22),
+        (CallNo::Mmap, [0, 1, 3, 0x20, ALL_ONES, 0], -22),
+        (CallNo::Mmap, [0, 1, 3, 0x23, ALL_ONES, 0], -22),
+        (CallNo::Mmap, [0, 1, 3, 0x122, ALL_ONES, 0], -22),
+        (CallNo::Mmap, [0, 1, 3, PRIVATE, ALL_ONES, 1], -22),
+        (CallNo::Mmap, [0x5_0001, 1, 3, FIXED, ALL_ONES, 0], -22),
+        // no descriptor, the right to execute, a device
+        (CallNo::Mmap, [0, 1, 4, 2, 9, 0], -9),
+        (CallNo::Mmap, [0, 1, 4, 2, 0, 0], -13),
+        (CallNo::Mmap, [0, 1, 3, 2, 0, 0], -19),
+        // mapped already, past user addresses, too many pages
+        (CallNo::Mmap, [0x2_1000, 1, 3, 0x10_0022, ALL_ONES, 0], -17),
+        (CallNo::Mmap, [END - 4096, 4097, 3, FIXED, ALL_ONES, 0], -12),
+        (CallNo::Mmap, [0, END, 3, PRIVATE, ALL_ONES, 0], -12),
+        (CallNo::Mmap, [0, 0x1000_0000, 3, PRIVATE, ALL_ONES, 0], -12),
+        // a map over half of a mapped range
+        (
+            CallNo::Mmap,
+            [0x3E_FF80_0000, 4_194_304, 1, FIXED, ALL_ONES, 0],
+            0x3E_FF80_0000,
+        ),
+        (CallNo::Munmap, [0x3E_FF80_0000, 8_388_608, 0, 0, 0, 0], 0),
+        (CallNo::Munmap, [0x3E_FF80_0000, 1, 0, 0, 0, 0], 0),
+        (CallNo::Munmap, [1, 1, 0, 0, 0, 0], -22),
+        (CallNo::Munmap, [0, 0, 0, 0, 0, 0], -22),
+        (CallNo::Munmap, [0, ALL_ONES, 0, 0, 0, 0], -22),
+        (CallNo::Munmap, [END - 4096, 4097, 0, 0, 0, 0], -22),
+        (CallNo::Mprotect, [1, 1, 4, 0, 0, 0], -22),
+        (CallNo::Mprotect, [0x1_0000, 1, 4, 0, 0, 0], -13),
+        (CallNo::Mprotect, [0x1_0000, 4097, 1, 0, 0, 0], -12),
+        (CallNo::Mprotect, [END, 1, 1, 0, 0, 0], -12),
+        // code stays as it is: in the last page of the range
+        (CallNo::Munmap, [0x1_0000, 0x6000, 0, 0, 0, 0], -13),
+        (CallNo::Mprotect, [0x1_5000, 1, 1, 0, 0, 0], -13),
+        (CallNo::Mmap, [0x1_4000, 0x2000, 3, FIXED, ALL_ONES, 0], -13),
+    ];
+    for (no, args, wanted) in table {
+        assert_eq!(rt; answer(&mut host, no, args)?, wanted, "{no:?} {wanted}");
+    }
+    Ok(())
+}
+
+#[test]
+fn time_goes_on_to_its_types_end(rt: HostRuntime) -> Result<(), Fail> {
+    let mut host = host(rt.alloc())?;
+    host.tick();
+    assert_eq!(rt; host.clock, 100);
+    host.clock = u64::MAX - 1;
+    host.tick();
+    assert_eq!(rt; host.clock, u64::MAX);
+    Ok(())
+}

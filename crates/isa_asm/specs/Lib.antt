@@ -1,0 +1,13 @@
+pub mod Lexing
+pub mod Literals
+pub mod Seen
+pub mod Tables
+pub mod Registers
+pub mod Kinds
+pub mod Operands
+pub mod Numbers
+pub mod Statement
+pub mod Source
+pub mod Ranges
+pub mod Places
+pub mod File

@@ -1,0 +1,4 @@
+pub mod CallFacts
+pub mod EffectFacts
+pub mod KnownFacts
+pub mod StayFacts

@@ -1,0 +1,4 @@
+pub mod Effects
+pub mod Instruction
+pub mod Known
+pub mod Made
