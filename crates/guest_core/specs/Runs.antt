@@ -15,7 +15,7 @@ IsSteadyAs (Some thread) machine = IsSteady (context_of thread machine)
 abbrev pub EventIsSteady : Machine → Event → Type 0
 EventIsSteady machine (Step id) = IsSteadyAs (thread_at id machine.threads) machine
 
--- the event is enabled, writes to no device, and has an id left where it faults
+-- the event is enabled, makes no call, and has an id left where it faults
 pub record TakesNoMemory (machine : Machine) (event : Event) : Type 0 where
   pub enabled : event_after machine event ≡ None → ⊥
   pub steady : EventIsSteady machine event
