@@ -24,9 +24,13 @@ abbrev pub guest_words : Option (List (List ℕ)) → List (List ℕ)
 guest_words None = []
 guest_words (Some args) = divider ∷ args
 
--- a budget is 0 to 33554432, and what goes into the environment is an entry
+-- the greatest budget of events
+abbrev pub most_budget : ℕ
+most_budget = 33554432
+
+-- a budget is at most the greatest, and what goes into the environment is an entry
 abbrev pub IsLawful : Choice → Type 0
-IsLawful (Budget budget) = budget ≤ 33554432
+IsLawful (Budget budget) = budget ≤ most_budget
 IsLawful (Env entry) = is_entry entry ≡ true
 
 abbrev pub AllLawful : List Choice → Type 0

@@ -6,6 +6,7 @@ use Rattle.cli_words.specs.declared.order.Plan.{Plan}
 use Rattle.elf_file.specs.declared.image.Elf.{Elf}
 use Rattle.elf_file.specs.Reading.{image}
 use Rattle.guest_core.specs.declared.ends.End.{End}
+use Rattle.guest_core.specs.Kept.{Keeps}
 use Rattle.guest_core.specs.Machine.{Machine}
 use Rattle.guest_core.specs.Start.{Program, program_of, started, FitsIn}
 use Rattle.emu_top.specs.declared.cause.Cause.{Cause}
@@ -28,21 +29,21 @@ asked_is tree words launch is =
     ap (λ (args : List (List ℕ)). program_of (image launch.elf) args launch.env.items) is.args
     ∙ ap (program_of (image launch.elf) (args_of is.asked)) is.env
 
-pub launch_finishes : {D : Type 0} (held : D → Option (List ℕ)) (tree : Option (List Entry)) (words : List (List ℕ)) (launch : Launch) (core : Machine) (count : ℕ) (before : List D) (end : End) (status : ℕ) (journal : History) (after : List D) → IsLaunch tree words launch → (core ≡ started (given launch) count) × FitsIn (given launch) → count ≡ length before → CoreFinishes held core launch.budget before end status journal after → Finishes held tree words before end status journal after
-launch_finishes held tree words launch core count before end status journal after is starts same finished =
+pub launch_finishes : {D : Type 0} (held : D → Option (List ℕ)) (tree : Option (List Entry)) (words : List (List ℕ)) (launch : Launch) (core : Machine) (count : ℕ) (before : List D) (end : End) (status : ℕ) (journal : History) (after : List D) → IsLaunch tree words launch → (core ≡ started (given launch) count) × FitsIn (given launch) → count ≡ length before → Keeps core → CoreFinishes held core launch.budget before end status journal after → Finishes held tree words before end status journal after
+launch_finishes held tree words launch core count before end status journal after is starts same keeps finished =
     let program = asked_is tree words launch is in
     finishes held tree words is.asked (image launch.elf) core before end status journal after
     (subst (λ (n : ℕ). CoreFinishes held core n before end status journal after) is.budget finished) is.prepared
     (subst FitsIn program starts.1)
-    (starts.0 ∙ ap (λ (p : Program). started p count) program ∙ ap (started (launched is.asked (image launch.elf))) same)
+    (starts.0 ∙ ap (λ (p : Program). started p count) program ∙ ap (started (launched is.asked (image launch.elf))) same) keeps
 
-pub launch_stops : {D : Type 0} (held : D → Option (List ℕ)) (writes : D → ℕ) (tree : Option (List Entry)) (reads_before reads_after : ℕ) (words : List (List ℕ)) (launch : Launch) (core : Machine) (count : ℕ) (before : List D) (halt : Halt) (journal : History) (after : List D) → IsLaunch tree words launch → (core ≡ started (given launch) count) × FitsIn (given launch) → count ≡ length before → CoreStops held writes core launch.budget before halt journal after → IsCaused held writes tree reads_before reads_after words before (halt_cause halt) journal after
-launch_stops held writes tree reads_before reads_after words launch core count before halt journal after is starts same stopped =
+pub launch_stops : {D : Type 0} (held : D → Option (List ℕ)) (writes : D → ℕ) (tree : Option (List Entry)) (reads_before reads_after : ℕ) (words : List (List ℕ)) (launch : Launch) (core : Machine) (count : ℕ) (before : List D) (halt : Halt) (journal : History) (after : List D) → IsLaunch tree words launch → (core ≡ started (given launch) count) × FitsIn (given launch) → count ≡ length before → Keeps core → CoreStops held writes core launch.budget before halt journal after → IsCaused held writes tree reads_before reads_after words before (halt_cause halt) journal after
+launch_stops held writes tree reads_before reads_after words launch core count before halt journal after is starts same keeps stopped =
     let program = asked_is tree words launch is in
     is_caused held writes tree reads_before reads_after words is.asked (image launch.elf) core before halt journal after
     (subst (λ (n : ℕ). CoreStops held writes core n before halt journal after) is.budget stopped) is.prepared
     (subst FitsIn program starts.1)
-    (starts.0 ∙ ap (λ (p : Program). started p count) program ∙ ap (started (launched is.asked (image launch.elf))) same)
+    (starts.0 ∙ ap (λ (p : Program). started p count) program ∙ ap (started (launched is.asked (image launch.elf))) same) keeps
 
 -- ---- before the start
 

@@ -3,7 +3,10 @@ pub mod JournalFacts
 pub mod SendFacts
 pub mod TurnFacts
 pub mod RunFacts
+pub mod ScheduleFacts
 pub mod TopFacts
+pub mod LawFacts
 pub mod RowsSimulate
+pub mod EventsSimulate
 pub mod CompleteFacts
 pub mod LaunchFacts

@@ -24,7 +24,9 @@ use Rattle.emu_top.specs.declared.cause.Cause.{Cause}
 use Rattle.emu_top.specs.declared.cause.Cause.TheVariants as causes
 use Rattle.emu_top.specs.declared.cause.Part.TheVariants as parts
 use Rattle.emu_top.specs.View.{view}
-use Rattle.emu_top.proofs.RowsSimulate.{start_simulates}
+use Rattle.guest_core.specs.Kept.{Keeps}
+use Rattle.emu_top.proofs.EventsSimulate.{start_simulates}
+use Rattle.emu_top.proofs.ScheduleFacts.{start_in_turn, start_whole}
 
 runs_from : {D : Type 0} (budget : ℕ) (first last : Run D) → first.journal.budget ≡ budget → Ran first last → RunsFrom first.core budget last.journal last.core
 runs_from budget first last is ran = record { enabled = ran.events; within = ran.within; budget_is = ran.budget ∙ is }
@@ -89,8 +91,8 @@ start_quiet held devices program count core is same =
 
 -- ---- the answer
 
-journeys : (tree : Option (List Entry)) (words : List (List ℕ)) (asked : Asked) (elf : Image) (devices : ℕ) (core : Machine) (journal : History) (last : Machine) → Prepared tree words asked elf → FitsIn (launched asked elf) → core ≡ started (launched asked elf) devices → RunsFrom core asked.budget journal last → Journeys tree words devices journal last (view last)
-journeys tree words asked elf devices core journal last prepared fit is runs =
+journeys : (tree : Option (List Entry)) (words : List (List ℕ)) (asked : Asked) (elf : Image) (devices : ℕ) (core : Machine) (journal : History) (last : Machine) → Prepared tree words asked elf → FitsIn (launched asked elf) → core ≡ started (launched asked elf) devices → Keeps core → RunsFrom core asked.budget journal last → Journeys tree words devices journal last (view last)
+journeys tree words asked elf devices core journal last prepared fit is keeps runs =
     let enabled : run (Some (started (launched asked elf) devices)) journal.events ≡ Some last = ap (λ (m : Machine). run (Some m) journal.events) (sym is) ∙ runs.enabled in
     record {
       asked = asked;
@@ -98,39 +100,43 @@ journeys tree words asked elf devices core journal last prepared fit is runs =
       prepared = prepared;
       fits = fit;
       enabled = enabled;
+      in_turn = start_in_turn (launched asked elf) devices journal.events last enabled;
       within = runs.within;
       budget_is = runs.budget_is;
-      labels_are_a_run = start_simulates (launched asked elf) devices journal.events last enabled;
+      labels_are_a_run = start_simulates (launched asked elf) devices journal.events last (subst Keeps is keeps) enabled;
       viewed = refl;
     }
 
 -- a run of the core to its end is what the top call shows
-pub finishes : {D : Type 0} (held : D → Option (List ℕ)) (tree : Option (List Entry)) (words : List (List ℕ)) (asked : Asked) (elf : Image) (core : Machine) (before : List D) (end : End) (status : ℕ) (journal : History) (after : List D) → CoreFinishes held core asked.budget before end status journal after → Prepared tree words asked elf → FitsIn (launched asked elf) → core ≡ started (launched asked elf) (length before) → Finishes held tree words before end status journal after
-finishes held tree words asked elf core before end status journal after finished prepared fit is = record {
+pub finishes : {D : Type 0} (held : D → Option (List ℕ)) (tree : Option (List Entry)) (words : List (List ℕ)) (asked : Asked) (elf : Image) (core : Machine) (before : List D) (end : End) (status : ℕ) (journal : History) (after : List D) → CoreFinishes held core asked.budget before end status journal after → Prepared tree words asked elf → FitsIn (launched asked elf) → core ≡ started (launched asked elf) (length before) → Keeps core → Finishes held tree words before end status journal after
+unfolding journeys
+finishes held tree words asked elf core before end status journal after finished prepared fit is keeps = record {
   last = finished.last;
   process = view finished.last;
-  journeys = journeys tree words asked elf (length before) core journal finished.last prepared fit is finished.runs;
+  journeys = journeys tree words asked elf (length before) core journal finished.last prepared fit is keeps finished.runs;
+  whole = start_whole (launched asked elf) (length before) journal.events journal.budget finished.last end
+      (ap (λ (m : Machine). run (Some m) journal.events) (sym is) ∙ finished.runs.enabled) finished.runs.within finished.end_is;
   end_is = finished.end_is;
   status_is = finished.status_is;
   all_sent = finished.all_sent;
 }
 
 -- and one that stopped is a cause
-pub is_caused : {D : Type 0} (held : D → Option (List ℕ)) (writes : D → ℕ) (tree : Option (List Entry)) (reads_before reads_after : ℕ) (words : List (List ℕ)) (asked : Asked) (elf : Image) (core : Machine) (before : List D) (halt : Halt) (journal : History) (after : List D) → CoreStops held writes core asked.budget before halt journal after → Prepared tree words asked elf → FitsIn (launched asked elf) → core ≡ started (launched asked elf) (length before) → IsCaused held writes tree reads_before reads_after words before (halt_cause halt) journal after
+pub is_caused : {D : Type 0} (held : D → Option (List ℕ)) (writes : D → ℕ) (tree : Option (List Entry)) (reads_before reads_after : ℕ) (words : List (List ℕ)) (asked : Asked) (elf : Image) (core : Machine) (before : List D) (halt : Halt) (journal : History) (after : List D) → CoreStops held writes core asked.budget before halt journal after → Prepared tree words asked elf → FitsIn (launched asked elf) → core ≡ started (launched asked elf) (length before) → Keeps core → IsCaused held writes tree reads_before reads_after words before (halt_cause halt) journal after
 unfolding journeys
-is_caused held writes tree reads_before reads_after words asked elf core before (halts.Device device) journal after stopped prepared fit is = record {
+is_caused held writes tree reads_before reads_after words asked elf core before (halts.Device device) journal after stopped prepared fit is keeps = record {
   last = stopped.0;
   process = view stopped.0;
-  journeys = journeys tree words asked elf (length before) core journal stopped.0 prepared fit is stopped.1;
+  journeys = journeys tree words asked elf (length before) core journal stopped.0 prepared fit is keeps stopped.1;
   breaks_off = subst (λ (first : Machine). BreaksOff first journal.events stopped.0.shared.files.outputs device (map held before) (map held after)) is stopped.2;
   is_device = stopped.3;
   rose = stopped.4;
   others = stopped.5;
 }
-is_caused held writes tree reads_before reads_after words asked elf core before halts.Memory journal after stopped prepared fit is = inr (record {
+is_caused held writes tree reads_before reads_after words asked elf core before halts.Memory journal after stopped prepared fit is keeps = inr (record {
   last = stopped.0;
   process = view stopped.0;
-  journeys = journeys tree words asked elf (length before) core journal stopped.0 prepared fit is stopped.1;
+  journeys = journeys tree words asked elf (length before) core journal stopped.0 prepared fit is keeps stopped.1;
   all_sent = stopped.2;
   still = stopped.3;
 })

@@ -1,6 +1,7 @@
 -- The journal of a run: its events, with the steps of one thread that follow each other counted.
 -- The project's own.
-use Rattle.std.specs.Prelude.{◌≢◌, ◌<◌, ℕ, List, [], ◌∷◌, ◌++◌, replicate}
+use Rattle.std.specs.Prelude.{◌≢◌, ◌<◌, ◌≤◌, ℕ, List, [], ◌∷◌, ◌++◌, length, replicate}
+use Rattle.cli_words.specs.Command.{most_budget}
 use Rattle.guest_core.specs.declared.events.Event.{Event}
 use Rattle.guest_core.specs.declared.events.Event.TheVariants.{Step}
 use Rattle.emu_top.specs.declared.journal.Entry.{Entry}
@@ -11,6 +12,12 @@ pub record History : Type 0 where
   pub budget : ℕ
   pub events : List Event
   pub room : ℕ
+
+-- The journal of an answer: its budget is one that words can give, and its events number at most as many. Its entries keep
+-- what every journal's do (`IsMerged`).
+pub record IsLawful (journal : History) : Type 0 where
+  pub budget_fits : journal.budget ≤ most_budget
+  pub within : length journal.events ≤ journal.budget
 
 -- whose steps an entry counts
 abbrev pub thread_of : Entry → ℕ

@@ -3,6 +3,7 @@ pub mod Files
 pub mod Journal
 pub mod Sending
 pub mod Running
+pub mod Schedule
 pub mod Solo
 pub mod Loading
 pub mod View

@@ -6,12 +6,17 @@ use Rattle.guest_core.specs.declared.events.Event.TheVariants.{Step}
 use Rattle.guest_core.specs.declared.ends.End.{End}
 use Rattle.guest_core.specs.declared.ends.End.TheVariants.{Budget}
 use Rattle.guest_core.specs.Machine.{Machine, first_thread}
+use Rattle.guest_core.specs.System.{live_ids}
 use Rattle.guest_core.specs.Event.{event_after, run}
 use Rattle.emu_top.specs.declared.solo.Halt.{Halt}
 use Rattle.emu_top.specs.declared.solo.Halt.TheVariants as halts
 use Rattle.emu_top.specs.declared.solo.Run.{Run}
 use Rattle.emu_top.specs.Sending.{OthersStill, sent, SentUpTo}
 use Rattle.emu_top.specs.Told.{Rose}
+
+-- no thread but the first lives, and it does
+abbrev pub OneLives : Machine → Type 0
+OneLives machine = live_ids machine ≡ first_thread ∷ []
 
 -- one step was made, and noted in the journal
 pub record Stepped {D : Type 0} (old new : Run D) : Type 0 where

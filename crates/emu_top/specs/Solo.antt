@@ -29,6 +29,7 @@ use Rattle.emu_top.specs.Journal.{History}
 use Rattle.emu_top.specs.Labels.{run_labels}
 use Rattle.emu_top.specs.Notes.{end_line, cause_line, Tries, FailsToTell}
 use Rattle.emu_top.specs.Running.{BreaksOff, IsEnd}
+use Rattle.emu_top.specs.Schedule.{scheduled}
 use Rattle.emu_top.specs.Sending.{OthersStill, sent}
 use Rattle.emu_top.specs.Told.{Rose}
 use Rattle.emu_top.specs.View.{view}
@@ -70,14 +71,15 @@ abbrev pub launched : Asked → Image → Program
 launched asked elf = program_of elf (args_of asked) asked.env
 
 -- The words, the folder and the number of devices give a start, and the journal's events are a run from it: each is
--- enabled after those before it. They number at most the budget that the words ask for. Their labels are a run of the
--- process machine from its own start, whose last state is the view of the core's.
+-- enabled after those before it, and they are those of the schedule. They number at most the budget that the words ask for.
+-- Their labels are a run of the process machine from its own start, whose last state is the view of the core's.
 pub record Journeys (tree : Option (List Entry)) (words : List (List ℕ)) (devices : ℕ) (journal : History) (last : Machine) (process : ProcessState) : Type 0 where
   pub asked : Asked
   pub elf : Image
   pub prepared : Prepared tree words asked elf
   pub fits : FitsIn (launched asked elf)
   pub enabled : run (Some (started (launched asked elf) devices)) journal.events ≡ Some last
+  pub in_turn : scheduled (length journal.events) [] (Some (started (launched asked elf) devices)) ≡ journal.events
   pub within : length journal.events ≤ journal.budget
   pub budget_is : journal.budget ≡ asked.budget
   pub labels_are_a_run : follow (Some (begun (launched asked elf) devices)) (run_labels (Some (started (launched asked elf) devices)) journal.events) ≡ Some process
@@ -88,6 +90,8 @@ pub record Finishes {D : Type 0} (held : D → Option (List ℕ)) (tree : Option
   pub last : Machine
   pub process : ProcessState
   pub journeys : Journeys tree words (length before) journal last process
+  -- its events are all that the schedule gives under the budget
+  pub whole : scheduled journal.budget [] (Some (started (launched journeys.asked journeys.elf) (length before))) ≡ journal.events
   pub end_is : IsEnd (seen_end process) (length journal.events) journal.budget end
   pub status_is : status ≡ status_of end
   -- each device holds what it held, and what is seen of the run behind that

@@ -91,7 +91,7 @@ fn run(rt: &HostRuntime, words: &[String]) -> Result<u8, AllocError> {
     Ok(
         match solo_top(alloc, words, &mut folder, devices, &mut notes) {
             Ok(finished) => finished.status,
-            Err(fault) => fault.cause.status(),
+            Err(fault) => fault.status(),
         },
     )
 }

@@ -6,11 +6,11 @@ ghost use Rattle.guest_core.specs.Machine.{first_thread};
 ghost use Rattle.host_calls.specs.Owes.{Grows};
 ghost use Rattle.emu_top.specs.Told.{more, Rose};
 ghost use Rattle.emu_top.specs.Sending.{AreUnread, NoneFell, OthersStill};
-ghost use Rattle.emu_top.specs.Running.{WentAhead, Stepped, KeepsSent, Halted, Ended, Stopped};
+ghost use Rattle.emu_top.specs.Running.{OneLives, WentAhead, Stepped, KeepsSent, Halted, Ended, Stopped};
 
 use crate::device::{Device, DeviceFailed};
 use crate::journal::Journal;
-use guest_core::{Core, End, Event, FIRST_THREAD};
+use guest_core::{Core, CoreRefusal, End, Event, FIRST_THREAD};
 use std::alloc::AllocError;
 
 /// A run: the core, the events that it made, and the devices, which hold what the core wrote.
@@ -34,12 +34,15 @@ pub enum Halt {
 const MOST_DEVICES: usize = 8;
 
 /// Makes the next step and notes it. After want of memory nothing was made.
+#[tactic(auto, using(crate::proofs::ScheduleFacts::one_lives, crate::proofs::ScheduleFacts::step_one))]
 fn advance(core: &mut Core, journal: &mut Journal) -> Result<(), AllocError>
     requires lives { core.old.end ≡ None }
+    requires one { OneLives core.old }
     requires count { length journal.old.events + 1 < 2 ^ 32 }
     ensures event { OnOk result (event_after core.old (Event.Step first_thread) ≡ Some core.new) }
     ensures noted { OnOk result (journal.new.events ≡ journal.old.events ++ Event.Step first_thread ∷ []) }
     ensures outputs { OnOk result (Grows core.old.shared.files.outputs core.new.shared.files.outputs) }
+    ensures one { OneLives core.new }
     ensures stays { OnErr result (core.new ≡ core.old) }
     ensures unnoted { OnErr result (journal.new.events ≡ journal.old.events) }
     ensures budget { journal.new.budget ≡ journal.old.budget }
@@ -50,7 +53,8 @@ fn advance(core: &mut Core, journal: &mut Journal) -> Result<(), AllocError>
             journal.note(FIRST_THREAD, 1);
             Ok(())
         }
-        Err(_) => Err(AllocError),
+        Err(CoreRefusal::Memory) => Err(AllocError),
+        Err(CoreRefusal::NotNow) => unreachable!(),
     }
 }
 
@@ -114,9 +118,11 @@ fn go_ahead<D: Device>(run: &mut Run<D>, limit: u32) -> Result<(), AllocError>
 /// Makes a step, and sends what it wrote to its device.
 fn turn<D: Device>(run: &mut Run<D>) -> Result<(), Halt>
     requires lives { run.old.core.end ≡ None }
+    requires one { OneLives run.old.core }
     requires count { length run.old.journal.events + 1 < 2 ^ 32 }
     requires devices { length run.old.devices.items ≡ length run.old.core.shared.files.outputs }
     requires few { length run.old.core.shared.files.outputs ≤ 8 }
+    ensures one { OneLives run.new.core }
     ensures stepped { OnOk result (Stepped run.old run.new) }
     ensures sent { OnOk result (KeepsSent D.held run.old run.new) }
     ensures halted { IfErr result (λ halt. Halted D.held D.failed_writes halt run.old run.new) }
@@ -147,6 +153,7 @@ fn turn<D: Device>(run: &mut Run<D>) -> Result<(), Halt>
 /// Makes steps until the process has ended or the budget is spent.
 pub fn run_to_end<D: Device>(run: &mut Run<D>) -> Result<End, Halt>
     requires fresh { run.old.journal.events ≡ [] }
+    requires one { OneLives run.old.core }
     requires devices { length run.old.devices.items ≡ length run.old.core.shared.files.outputs }
     requires few { length run.old.core.shared.files.outputs ≤ 8 }
     ensures ended { IfOk result (λ end. Ended D.held end run.old run.new) }

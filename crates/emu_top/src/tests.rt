@@ -233,7 +233,7 @@ fn two_segments_of_the_same_bytes_are_refused(rt: HostRuntime) -> Result<(), Fai
         return Err("it is refused")?;
     };
     assert!(rt; matches!(fault.cause, Cause::Elf(ElfFault::Overlap(0, 1))));
-    assert_eq!(rt; fault.cause.status(), 65);
+    assert_eq!(rt; fault.status(), 65);
     assert_eq!(rt;
         line.as_slice(),
         b"rvuser: not runnable: Overlap 0 1\n".as_slice()

@@ -5,9 +5,12 @@ ghost use Rattle.std.specs.String.{string_bytes};
 ghost use Rattle.emu_top.specs.Sending.{AreUnread, sent};
 ghost use Rattle.emu_top.specs.Complete.{IsRunnable, NoneRose, NothingFailed, ReadsStill};
 ghost use Rattle.elf_file.specs.Reading.{image};
+ghost use Rattle.guest_core.specs.Kept.{Keeps};
 ghost use Rattle.guest_core.specs.Start.{program_of, Starts};
 ghost use Rattle.emu_top.specs.Notes.{end_line, TellsEnd, TellsFault, EndsUntold};
-ghost use Rattle.emu_top.specs.Solo.{CoreFinishes, CoreStops, Finishes, IsCaused, Faults, halt_cause, start_cause, status_of as end_status};
+ghost use Rattle.emu_top.specs.Solo.{CoreFinishes, CoreStops, Finishes, IsCaused, Faults, fault_status, halt_cause, start_cause, status_of as end_status};
+ghost use Rattle.emu_top.specs.Journal.{IsLawful};
+ghost use Rattle.emu_top.specs.Running.{OneLives};
 ghost use Rattle.emu_top.specs.declared.cause.Cause.TheVariants.{Memory as memory};
 
 use crate::cause::{Cause, Part};
@@ -39,6 +42,15 @@ pub struct TopFault<D: Device> {
     pub cause: Cause,
     pub journal: Journal,
     pub devices: Vec<D>,
+}
+
+impl<D: Device> TopFault<D> {
+    /// The status with which the program ends. It takes no memory.
+    pub fn status(&self) -> u8
+        ensures { result ≡ fault_status self.now.cause }
+    {
+        self.cause.status()
+    }
 }
 
 /// A run that a fault stopped.
@@ -75,6 +87,8 @@ pub fn solo_top<F: Folder, K: Sink, D: Device>(
     // Where the words name a file of the folder that starts, and no count rose, only want of memory is left.
     ensures complete { IfErr result (λ f. IsRunnable (F.tree folder.old) (map string_bytes words.now) → NoneRose D.failed_writes K.failed_writes (F.failed_reads folder.old) (F.failed_reads folder.new) devices.items f.devices.items notes.old notes.new → f.cause ≡ memory) }
     // No failure is passed over, at an end or before a fault, and nothing is read of the devices.
+    // The journal has a budget that words can give, and no more events than that.
+    ensures lawful { MatchResult result (λ f. IsLawful f.journal) (λ f. IsLawful f.journal) }
     ensures quiet_reads { IfErr result (λ f. ReadsStill f.cause (F.failed_reads folder.old) (F.failed_reads folder.new)) }
     ensures quiet { IfOk result (λ f. NothingFailed D.failed_writes K.failed_writes (F.failed_reads folder.old) (F.failed_reads folder.new) devices.items f.devices.items notes.old notes.new) }
     ensures unread { MatchResult result
@@ -164,7 +178,7 @@ fn forgotten<D: Device>(fault: TopFault<D>) -> TopFault<D>
 }
 
 /// Runs the program that the words name, without a line on the notes.
-#[tactic(auto, using(crate::proofs::TopFacts::finishes, crate::proofs::TopFacts::is_caused, crate::proofs::CompleteFacts::still_as))]
+#[tactic(auto, using(crate::proofs::TopFacts::finishes, crate::proofs::TopFacts::is_caused, crate::proofs::CompleteFacts::still_as, crate::proofs::LawFacts::empty_lawful))]
 fn attempt<F: Folder, D: Device>(
     alloc: Global,
     words: &[String],
@@ -177,6 +191,7 @@ fn attempt<F: Folder, D: Device>(
     ensures unread { MatchResult result
         (λ f. AreUnread D.left D.failed_reads devices.items f.devices.items)
         (λ f. AreUnread D.left D.failed_reads devices.items f.devices.items) }
+    ensures lawful { MatchResult result (λ f. IsLawful f.journal) (λ f. IsLawful f.journal) }
     ensures still { IfOk result (λ f. (F.failed_reads folder.new ≡ F.failed_reads folder.old) × (map D.failed_writes f.devices.items ≡ map D.failed_writes devices.items)) }
     ensures quiet { IfErr result (λ f. ReadsStill f.cause (F.failed_reads folder.old) (F.failed_reads folder.new)) }
     ensures folder { F.tree folder.new ≡ F.tree folder.old }
@@ -199,7 +214,8 @@ fn attempt<F: Folder, D: Device>(
 fn core_of(alloc: Global, launch: &Launch, devices: usize) -> Result<Core, StartFault>
     requires devices { devices ≤ 8 }
     requires name { 0 < length launch.now.args.items }
-    ensures { Starts (program_of (image launch.now.elf) launch.now.args.items launch.now.env.items) devices result }
+    ensures starts { Starts (program_of (image launch.now.elf) launch.now.args.items launch.now.env.items) devices result }
+    ensures keeps { IfOk result Keeps }
 {
     start(
         alloc,
@@ -264,6 +280,7 @@ fn execute<D: Device>(
     budget: u32,
     devices: Vec<D>,
 ) -> Result<Finished<D>, Stopped<D>>
+    requires one { OneLives core }
     requires devices { length devices.items ≡ length core.shared.files.outputs }
     requires few { length devices.items ≤ 8 }
     requires quiet { map D.held devices.items ≡ sent (map D.held devices.items) core.shared.files.outputs }

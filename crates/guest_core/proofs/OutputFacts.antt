@@ -1,41 +1,47 @@
 -- That outputs only grow, at most one of them in an event.
-use Rattle.std.proofs.Common.{◌≡◌, List, ℕ, ap, refl, subst, sym}
+use Rattle.std.proofs.Common.{◌≡◌, ℕ, Some, refl, sym, subst}
+use Rattle.guest_core.specs.declared.calls.CallOutcome.{CallOutcome}
 use Rattle.guest_core.specs.declared.calls.CallOutcome.TheVariants.{Answers, Ends}
+use Rattle.guest_core.specs.declared.events.Event.{Event}
+use Rattle.guest_core.specs.declared.events.Event.TheVariants.{Step}
 use Rattle.host_calls.specs.Owes.{Grows}
 use Rattle.host_calls.specs.Shared.{Shared}
 use Rattle.host_calls.proofs.Shapes.{same_grows}
 use Rattle.isa_step.specs.Instruction.{Calls, Faults, InstructionOutcome, Runs}
-use Rattle.guest_core.specs.Call.{Called, called}
-use Rattle.guest_core.specs.Machine.{Context}
-use Rattle.guest_core.specs.Rows.{Row, Note, Take, ClearFlag, Execute, Check, Enter, Return, row_of, done, noted, taken, flag_cleared, after, executed, checked, after_call, entered, instruction_of, returned, stepped, ticked}
+use Rattle.guest_core.specs.Call.{called}
+use Rattle.guest_core.specs.Event.{event_after, settled, ticked}
+use Rattle.guest_core.specs.Machine.{Machine, Thread}
+use Rattle.guest_core.specs.Rows.{Row, Note, Take, ClearFlag, Execute, Check, Enter, Return, done, noted, taken, flag_cleared, after_instruction, executed, checked, after_call, entered, instruction_of, returned}
+use Rattle.guest_core.specs.System.{Context, context_of, put}
 use Rattle.guest_core.proofs.CallFacts.{called_owes}
+use Rattle.guest_core.proofs.EventCases.{happened}
 
-pub after_call_shared : (made : Called) (context : Context) → (after_call made context).shared ≡ made.shared
-after_call_shared made context = elim made.outcome as (λ outcome. (after_call (record { shared = made.shared; outcome = outcome }) context).shared ≡ made.shared) [
-  | Answers answer ↦ refl
-  | Ends end ↦ refl
-]
+call_shared : (outcome : CallOutcome) (shared : Shared) (context : Context Thread) → (after_call outcome shared context).shared ≡ shared
+call_shared (Answers answer) shared context = refl
+call_shared (Ends end) shared context = refl
 
-after_same : (outcome : InstructionOutcome) (context : Context) → (after outcome context).shared.files.outputs ≡ context.shared.files.outputs
-after_same (Runs regs memory held) context = refl
-after_same Calls context = refl
-after_same (Faults fault) context = refl
+instruction_same : (outcome : InstructionOutcome) (context : Context Thread) → (after_instruction outcome context).shared.files.outputs ≡ context.shared.files.outputs
+instruction_same (Runs regs memory held) context = refl
+instruction_same Calls context = refl
+instruction_same (Faults fault) context = refl
 
-row_grows : (row : Row) (context : Context) → Grows context.shared.files.outputs (done row context).shared.files.outputs
+row_grows : (row : Row) (context : Context Thread) → Grows context.shared.files.outputs (done row context).shared.files.outputs
 unfolding noted taken flag_cleared executed checked entered returned
 row_grows (Note instance) context = same_grows _ _ refl
 row_grows (Take instance) context = same_grows _ _ refl
 row_grows ClearFlag context = same_grows _ _ refl
-row_grows Execute context = same_grows _ _ (after_same (instruction_of context) context)
+row_grows Execute context = same_grows _ _ (instruction_same (instruction_of context) context)
 row_grows Check context = same_grows _ _ refl
 row_grows Enter context =
-    let made = called context.thread.id context.thread.regs context.shared in
-    subst (λ (shared : Shared). Grows context.shared.files.outputs shared.files.outputs) (sym (after_call_shared made context)) (called_owes context.thread.id context.thread.regs context.shared).outputs
+    let made = called context.id context.self.regs context.shared in
+    subst (λ (shared : Shared). Grows context.shared.files.outputs shared.files.outputs) (sym (call_shared made.outcome made.shared context)) (called_owes context.id context.self.regs context.shared).outputs
 row_grows (Return answer) context = same_grows _ _ refl
 
-step_grows : (context : Context) → Grows context.shared.files.outputs (stepped (ticked context)).shared.files.outputs
-unfolding stepped ticked
-step_grows context = row_grows (row_of (ticked context)) (ticked context)
+step_grows : (id : ℕ) (thread : Thread) (row : Row) (machine : Machine) → Grows machine.shared.files.outputs (settled (put id (done row (context_of id thread (ticked machine))) (ticked machine))).shared.files.outputs
+unfolding settled ticked
+step_grows id thread row machine = row_grows row (context_of id thread (ticked machine))
 
-pub new_grows : (old new : Context) → new ≡ stepped (ticked old) → Grows old.shared.files.outputs new.shared.files.outputs
-new_grows old new same = subst (λ (context : Context). Grows old.shared.files.outputs context.shared.files.outputs) (sym same) (step_grows old)
+pub event_grows : (event : Event) (machine next : Machine) → event_after machine event ≡ Some next → Grows machine.shared.files.outputs next.shared.files.outputs
+event_grows (Step id) machine next is =
+    let was = happened id machine next is in
+    subst (λ (m : Machine). Grows machine.shared.files.outputs m.shared.files.outputs) (sym was.next_is) (step_grows id was.thread was.row machine)

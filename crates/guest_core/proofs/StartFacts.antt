@@ -1,5 +1,5 @@
 -- That the start keeps what every state keeps.
-use Rattle.std.proofs.Common.{ℕ, ◌-◌, List, map, refl}
+use Rattle.std.proofs.Common.{◌≡◌, ℕ, ◌-◌, List, [], ◌∷◌, map, refl, arith}
 use Rattle.std.specs.List.{All}
 use Rattle.elf_file.specs.declared.image.Elf.{Elf}
 use Rattle.elf_file.specs.Reading.{image}
@@ -11,26 +11,12 @@ use Rattle.guest_pages.specs.Apart.{IsApart}
 use Rattle.guest_core.specs.Start.{Program, first_memory, program_of, started, trampoline_bytes, with_trampoline}
 use Rattle.guest_pages.specs.Limits.{trampoline, stack_length, stack_end}
 use Rattle.guest_pages.specs.Faults.{changeable, runnable}
-use Rattle.guest_core.specs.Kept.{Keeps}
+use Rattle.guest_core.specs.Machine.{first_thread}
+use Rattle.guest_core.specs.System.{live_ids}
 use Rattle.isa_step.specs.Known.{IsKnown}
 use Rattle.guest_core.specs.Sound.{IsSound}
 use Rattle.guest_pages.proofs.ApartFacts.{apart_placed, apart_protected, apart_written}
 use Rattle.guest_core.proofs.SegmentFacts.{all_one_way, apart_loaded}
-
-pub start_keeps : (program : Program) (devices : ℕ) → Keeps (started program devices)
-unfolding started
-start_keeps program devices = record {
-  one = refl;
-  each = (
-    record {
-      noted_due = refl;
-      flag_set = λ clear. refl;
-      window_clear = λ window. refl;
-      before_call = λ lives before. absurd before;
-    },
-    tt,
-  );
-}
 
 -- no page of a file, of the trampoline and of the stack can be both written and executed
 first_apart : (elf : Elf) (args env : List (List ℕ)) → IsApart (first_memory (program_of (image elf) args env))
@@ -43,9 +29,18 @@ first_apart elf args env =
 -- so a start keeps what every state keeps, where nothing that isn't there is remembered
 pub start_sound : (elf : Elf) (args env : List (List ℕ)) (devices : ℕ) (known : List Known) → ((memory : List Range) → All (IsKnown memory) known) → IsSound (started (program_of (image elf) args env) devices) known
 unfolding started
-start_sound elf args env devices known all = record {
-  keeps = start_keeps (program_of (image elf) args env) devices;
-  apart = first_apart elf args env;
-  at_call = ((λ apart. absurd (apart refl)), tt);
-  right = all (first_memory (program_of (image elf) args env));
-}
+start_sound elf args env devices known all =
+    let apart = first_apart elf args env in
+    record {
+      keeps = record {
+        each = (record { apart = apart; flag_set = λ clear. refl; by_place = tt; at_call = tt }, tt);
+        noted_due = (refl, tt);
+        ids_rise = (omega arith, tt);
+      };
+      apart = apart;
+      right = all (first_memory (program_of (image elf) args env));
+    }
+
+pub start_ids : (program : Program) (devices : ℕ) → live_ids (started program devices) ≡ first_thread ∷ []
+unfolding started
+start_ids program devices = refl

@@ -1,23 +1,55 @@
 -- Events of the emulator, and runs of them.
 -- The project's own: one event is one atomic step.
-use Rattle.std.specs.Prelude.{ℕ, ◌&&◌, Bool, if◌then◌else◌, is_none, List, [], ◌∷◌, Option, Some, None}
+use Rattle.std.specs.Prelude.{ℕ, Bool, if◌then◌else◌, is_none, is_some, List, [], ◌∷◌, map, Option, Some, None}
+use Rattle.std.specs.Option.{option_map}
 use Rattle.guest_core.specs.declared.events.Event.{Event}
 use Rattle.guest_core.specs.declared.events.Event.TheVariants.{Step}
-use Rattle.guest_core.specs.Machine.{Machine, Thread, context_of, is_live, thread_at, with_context}
-use Rattle.guest_core.specs.Rows.{ticked, stepped}
+use Rattle.guest_core.specs.Machine.{Machine, Thread}
+use Rattle.guest_core.specs.Rows.{Row, done, row_of}
+use Rattle.guest_core.specs.System.{Member, context_of, found, put, with_shared}
+use Rattle.host_calls.specs.Marks.{still_noted}
+use Rattle.host_calls.specs.Queue.{due}
+use Rattle.host_calls.specs.Shared.{Shared, later}
 
--- a thread that lives makes steps, and nothing is enabled after the end
-abbrev pub is_enabled : Machine → Event → Bool
-is_enabled machine (Step thread) = is_none machine.end && is_live thread machine
+-- an event first takes its time
+unfoldable pub ticked : Machine → Machine
+ticked machine = with_shared (later machine.shared) machine
 
--- the thread's step, which first takes its time
-abbrev pub moved : ℕ → Option Thread → Machine → Option Machine
-moved id None machine = None
-moved id (Some thread) machine = Some (with_context id (stepped (ticked (context_of thread machine))) machine)
+-- ---- a thread's step
 
--- the state after an event, none where it isn't enabled
+abbrev pub row_done : ℕ → Thread → Machine → Option Row → Option Machine
+row_done id thread machine None = None
+row_done id thread machine (Some row) = Some (put id (done row (context_of id thread machine)) machine)
+
+-- none where the thread doesn't live, or no row fits
+abbrev pub stepped : ℕ → Machine → Option Thread → Option Machine
+stepped id machine None = None
+stepped id machine (Some thread) = row_done id thread machine (row_of (context_of id thread machine))
+
+abbrev pub acted_now : Event → Machine → Option Machine
+acted_now (Step id) machine = stepped id machine (found id machine.members)
+
+unfoldable pub acted : Event → Machine → Option Machine
+acted event machine = acted_now event (ticked machine)
+
+-- ---- the end of each event
+
+-- what isn't due to the thread any more is noted no more
+abbrev pub thread_settled : Shared → Member Thread → Member Thread
+thread_settled shared member =
+    record member { self = record member.self { noted = still_noted member.self.noted (due member.id shared.queue) } }
+
+unfoldable pub settled : Machine → Machine
+settled machine = record machine { members = map (thread_settled machine.shared) machine.members }
+
+-- ---- an event
+
+-- the state after an event, none where it isn't enabled: nothing is after the end
 unfoldable pub event_after : Machine → Event → Option Machine
-event_after machine (Step id) = if is_none machine.end then moved id (thread_at id machine.threads) machine else None
+event_after machine event = if is_none machine.end then option_map settled (acted event machine) else None
+
+abbrev pub is_enabled : Machine → Event → Bool
+is_enabled machine event = is_some (event_after machine event)
 
 abbrev pub happens : Option Machine → Event → Option Machine
 happens (Some machine) event = event_after machine event

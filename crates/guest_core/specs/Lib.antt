@@ -1,3 +1,4 @@
+pub mod System
 pub mod Machine
 pub mod Sound
 pub mod Signals

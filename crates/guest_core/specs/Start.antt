@@ -1,7 +1,7 @@
 -- The state in which a program starts.
 -- Source: System V ABI, "Program Loading" and "Process Initialization"; RISC-V ELF psABI. That the other registers start as 0,
 -- the trampoline, through which handlers will return, and the bound of pages are the project's own.
-use Rattle.std.specs.Prelude.{◌≡◌, ◌<◌, ◌≤◌, ℕ, ◌+◌, ◌-◌, ◌^◌, ◌++◌, min, true, false, List, [], replicate, slice_set, None, Result, Ok, Err}
+use Rattle.std.specs.Prelude.{◌≡◌, ◌<◌, ◌≤◌, ℕ, ◌+◌, ◌-◌, ◌^◌, ◌++◌, min, false, List, [], replicate, Result, Ok, Err}
 use Rattle.byteorder.specs.Endian.{little_bytes}
 use Rattle.elf_file.specs.Reading.{Image}
 use Rattle.segment_load.specs.Loading.{loaded}
@@ -18,7 +18,8 @@ use Rattle.guest_core.specs.declared.starting.StartFault.TheVariants.{StackTooLo
 use Rattle.guest_pages.specs.Operations.{placed, protected, written}
 use Rattle.guest_pages.specs.Ranges.{Range}
 use Rattle.word_memory.specs.Reservations.{joined}
-use Rattle.guest_core.specs.Machine.{Machine, alone, first_thread}
+use Rattle.guest_core.specs.Machine.{Machine, first_thread}
+use Rattle.guest_core.specs.System.{alone}
 use Rattle.host_calls.specs.Shared.{Shared}
 
 -- a program: its file, its arguments, the first of which is its name, and its environment
@@ -62,10 +63,11 @@ abbrev pub first_regs : Program → Registers
 first_regs program = with_register 2 (stack_pointer program.args program.env) (starting_at program.image.entry)
 
 unfoldable pub started : Program → ℕ → Machine
-started program devices = alone (record {
-  shared = first_shared program devices;
-  thread = record { id = first_thread; regs = first_regs program; place = Loop; flag = false; noted = [] };
-  end = None;
+started program devices = alone (first_shared program devices) first_thread (record {
+  regs = first_regs program;
+  place = Loop;
+  flag = false;
+  noted = [];
 })
 
 -- ---- refusals

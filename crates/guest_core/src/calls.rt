@@ -61,7 +61,7 @@ pub(crate) fn make_call(
     regs: &Regs,
 ) -> Result<CallOutcome, AllocError>
     ensures made { IfOk result (λ outcome. record { shared = shared_of host.new; outcome = outcome } ≡ called thread regs.now (shared_of host.old)) }
-    ensures noted { host.new.pending.noted ≡ host.old.pending.noted }
+    ensures pending { host.new.pending ≡ host.old.pending }
     ensures err { OnErr result (host.new ≡ host.old) }
 {
     match asked(regs) {

@@ -3,14 +3,15 @@ ghost use Rattle.std.specs.Option.{option_copied, option_map};
 ghost use Rattle.guest_core.specs.Event.{is_enabled, event_after, run};
 ghost use Rattle.guest_core.specs.Ahead.{AllGoOn, GoesOn};
 ghost use Rattle.guest_pages.specs.Apart.{KeepsCode};
-ghost use Rattle.guest_core.specs.Machine.{thread_at};
-ghost use Rattle.guest_core.specs.Runs.{TakesNoMemory, Stopped};
+ghost use Rattle.guest_core.specs.System.{found, live_ids};
+ghost use Rattle.guest_core.specs.Runs.{Lives, TakesNoMemory, Stopped};
 ghost use Rattle.host_calls.specs.Host.{shared_of};
 ghost use Rattle.host_calls.specs.Owes.{Grows};
 
 use crate::ends::End;
 use crate::events::Event;
-use crate::state::{State, System};
+use crate::places::Place;
+use crate::state::{State, place_of};
 use crate::thread::Thread;
 use host_calls::Host;
 use isa_exec::Regs;
@@ -33,8 +34,7 @@ pub enum CoreRefusal {
 #[derive(Drop)]
 pub struct CoreParts {
     pub host: Host,
-    /// Those of the one thread.
-    pub regs: Regs,
+    pub threads: Vec<Thread>,
 }
 
 /// The emulator's machine. Contracts see its whole state; its type keeps what `Keeps` says of each state, that nothing can
@@ -69,24 +69,44 @@ impl Core {
         Core { state, decoder }
     }
 
-    /// Makes an event. After a refusal the state is as before. It takes constant time, but for a call by the bytes that it
-    /// names, and memory only where a call is made.
-    #[tactic(auto, unfolding(crate::specs::Event::event_after))]
+    /// Makes an event. After a refusal the state is as before. Beside the look-up of its thread, which costs by the logarithm of
+    /// their number, it takes constant time, but for a call by the bytes that it names, and by the signals that are pending;
+    /// and memory only where a call is made, or a fault is sent while a signal is pending.
     pub fn event(&mut self, event: &Event) -> Result<(), CoreRefusal>
         ensures happens { OnOk result (event_after self.old event.now ≡ Some self.new) }
         ensures unchanged { OnErr result (self.new ≡ self.old) }
         ensures refused { result ≡ Err CoreRefusal.NotNow → event_after self.old event.now ≡ None }
         ensures not_enabled { event_after self.old event.now ≡ None → result ≡ Err CoreRefusal.NotNow }
+        ensures live { self.old.end ≡ None → Lives self.old event.now → result ≡ Err CoreRefusal.NotNow → ⊥ }
         ensures steady { TakesNoMemory self.old event.now → IsOk result }
         ensures outputs { OnOk result (Grows self.old.shared.files.outputs self.new.shared.files.outputs) }
         ensures code { OnOk result (KeepsCode self.old.shared.memory self.new.shared.memory) }
     {
-        if !self.enabled(event) {
+        match *event {
+            Event::Step(thread) => self.step(thread),
+        }
+    }
+
+    /// Makes a step of a thread.
+    fn step(&mut self, thread: u32) -> Result<(), CoreRefusal>
+        ensures happens { OnOk result (event_after self.old (Event.Step thread) ≡ Some self.new) }
+        ensures unchanged { OnErr result (self.new ≡ self.old) }
+        ensures refused { result ≡ Err CoreRefusal.NotNow → event_after self.old (Event.Step thread) ≡ None }
+        ensures not_enabled { event_after self.old (Event.Step thread) ≡ None → result ≡ Err CoreRefusal.NotNow }
+        ensures live { self.old.end ≡ None → Lives self.old (Event.Step thread) → result ≡ Err CoreRefusal.NotNow → ⊥ }
+        ensures steady { TakesNoMemory self.old (Event.Step thread) → IsOk result }
+        ensures outputs { OnOk result (Grows self.old.shared.files.outputs self.new.shared.files.outputs) }
+        ensures code { OnOk result (KeepsCode self.old.shared.memory self.new.shared.memory) }
+    {
+        if self.state.end.is_some() {
             return Err(CoreRefusal::NotNow);
         }
-        match self.state.thread.step(&mut self.state.system) {
-            Ok(()) => Ok(()),
-            Err(_) => Err(CoreRefusal::Memory),
+        match place_of(&self.state.threads, thread) {
+            None => Err(CoreRefusal::NotNow),
+            Some(place) => match self.state.step(place) {
+                Ok(()) => Ok(()),
+                Err(_) => Err(CoreRefusal::Memory),
+            },
         }
     }
 
@@ -102,13 +122,13 @@ impl Core {
         ensures end { self.new.end ≡ self.old.end }
         ensures code { KeepsCode self.old.shared.memory self.new.shared.memory }
     {
-        if thread != self.state.thread.id {
+        if self.state.end.is_some() {
             return 0;
         }
-        if !self.state.thread.is_ready(&self.state.system) {
-            return 0;
+        match place_of(&self.state.threads, thread) {
+            None => 0,
+            Some(place) => self.state.run_on(place, &mut self.decoder, limit),
         }
-        self.state.run_on(&mut self.decoder, limit)
     }
 
     /// Makes events up to the first that is refused, whose index is told with its refusal. The state is that before
@@ -125,13 +145,25 @@ impl Core {
         Ok(())
     }
 
-    /// Whether the event is enabled.
+    /// Whether the event is enabled. It costs by the logarithm of the number of threads.
     pub fn enabled(&self, event: &Event) -> bool
         ensures { result ≡ is_enabled self.now event.now }
     {
         match *event {
-            Event::Step(thread) => self.state.system.end.is_none()
-                && thread == self.state.thread.id,
+            Event::Step(thread) => self.can_step(thread),
+        }
+    }
+
+    /// Whether a thread's step is enabled.
+    fn can_step(&self, thread: u32) -> bool
+        ensures { result ≡ is_enabled self.now (Event.Step thread) }
+    {
+        if self.state.end.is_some() {
+            return false;
+        }
+        match place_of(&self.state.threads, thread) {
+            Some(_) => true,
+            None => false,
         }
     }
 
@@ -139,38 +171,71 @@ impl Core {
     pub fn ended(&self) -> Option<End>
         ensures { result ≡ self.now.end }
     {
-        self.state.system.end
+        self.state.end
+    }
+
+    /// The thread of an id.
+    fn thread(&self, thread: u32) -> Option<&Thread>
+        ensures regs { option_map (λ of. of.now.regs) result ≡ option_map (λ of. of.regs) (found thread self.now.members) }
+        ensures place { option_map (λ of. of.now.place) result ≡ option_map (λ of. of.place) (found thread self.now.members) }
+        ensures flag { option_map (λ of. of.now.flag) result ≡ option_map (λ of. of.flag) (found thread self.now.members) }
+    {
+        match place_of(&self.state.threads, thread) {
+            None => None,
+            Some(place) => Some(&self.state.threads[place]),
+        }
     }
 
     /// The registers of a thread, `None` exactly where it does not live.
     pub fn regs(&self, thread: u32) -> Option<&Regs>
-        ensures { option_copied result ≡ option_map (λ of. of.regs) (thread_at thread self.now.threads) }
+        ensures { option_copied result ≡ option_map (λ of. of.regs) (found thread self.now.members) }
     {
-        if thread == self.state.thread.id {
-            Some(&self.state.thread.regs)
-        } else {
-            None
+        match self.thread(thread) {
+            None => None,
+            Some(of) => Some(&of.regs),
         }
     }
 
-    /// What the system has, and the one thread's registers.
+    /// Where a thread stands, `None` exactly where it does not live.
+    pub fn place(&self, thread: u32) -> Option<Place>
+        ensures { result ≡ option_map (λ of. of.place) (found thread self.now.members) }
+    {
+        match self.thread(thread) {
+            None => None,
+            Some(of) => Some(of.place),
+        }
+    }
+
+    /// Whether a thread's flag is set, `None` exactly where it does not live.
+    pub fn flag(&self, thread: u32) -> Option<bool>
+        ensures { result ≡ option_map (λ of. of.flag) (found thread self.now.members) }
+    {
+        match self.thread(thread) {
+            None => None,
+            Some(of) => Some(of.flag),
+        }
+    }
+
+    /// What the system has, and the registers of each thread with its id.
     pub fn into_parts(self) -> CoreParts
         ensures host { shared_of result.host ≡ self.shared }
-        ensures regs { map (λ thread. thread.regs) self.threads ≡ result.regs ∷ [] }
+        ensures threads { map (λ thread. thread.id) result.threads.items ≡ live_ids self }
+        ensures regs { map (λ thread. thread.regs) result.threads.items ≡ map (λ member. member.self.regs) self.members }
     {
         let Core { state, decoder: _ } = self;
         let State {
-            system: System { host, end: _ },
-            thread: Thread { regs, .. },
+            host,
+            end: _,
+            threads,
         } = state;
-        CoreParts { host, regs }
+        CoreParts { host, threads }
     }
 
     /// The number of devices.
     pub fn devices(&self) -> usize
         ensures { result ≡ length self.now.shared.files.outputs }
     {
-        self.state.system.host.outputs.len()
+        self.state.host.outputs.len()
     }
 
     /// What was written to a device, in order.
@@ -178,6 +243,6 @@ impl Core {
         requires { device < length self.now.shared.files.outputs }
         ensures { result.now ≡ slice_index_or self.now.shared.files.outputs device [] }
     {
-        self.state.system.host.outputs.get(device)
+        self.state.host.outputs.get(device)
     }
 }

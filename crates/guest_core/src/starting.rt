@@ -1,12 +1,13 @@
 ghost use Rattle.std.specs.Prelude.{◌≡◌, ◌≤◌, ◌<◌, length, IfOk, OnOk};
 ghost use Rattle.elf_file.specs.Reading.{image};
 ghost use Rattle.guest_core.specs.Start.{first_memory, program_of, started, with_trampoline, Starts};
+ghost use Rattle.guest_core.specs.Kept.{Keeps};
 ghost use Rattle.guest_core.specs.State.{machine};
 ghost use Rattle.start_stack.specs.Placing.{stack_pointer};
 
 use crate::machine::{Core, FIRST_THREAD};
 use crate::places::Place;
-use crate::state::{State, System};
+use crate::state::State;
 use crate::thread::Thread;
 use elf_file::Elf;
 use file_tree::Text;
@@ -45,7 +46,7 @@ pub enum StartFault {
 /// number of its devices. It costs by the pages and bytes of the file's segments, and by those of the first stack.
 ///
 /// References: System V ABI, "Program Loading" and "Process Initialization".
-#[tactic(auto, using(crate::proofs::StartFacts::start_keeps), unfolding(crate::specs::Start::wanted_pages))]
+#[tactic(auto, unfolding(crate::specs::Start::wanted_pages))]
 pub fn start(
     alloc: Global,
     elf: &Elf,
@@ -55,7 +56,8 @@ pub fn start(
 ) -> Result<Core, StartFault>
     requires devices { devices ≤ 8 }
     requires name { 0 < length args.now }
-    ensures { Starts (program_of (image elf.now) args.now env.now) devices result }
+    ensures starts { Starts (program_of (image elf.now) args.now env.now) devices result }
+    ensures keeps { IfOk result Keeps }
 {
     let size = size_of(args, env);
     if size > MOST_STACK_BYTES {
@@ -92,25 +94,25 @@ fn state_of(
     let outputs = Outputs::new(alloc, devices)?;
     let mut regs = Regs::starting_at(elf.entry);
     regs.set_register(2, pointer);
+    let mut threads = Vec::new(alloc);
+    threads.push(Thread {
+        id: FIRST_THREAD,
+        regs,
+        place: Place::Loop,
+        flag: false,
+    })?;
     Ok(State {
-        system: System {
-            host: Host {
-                pages,
-                held,
-                outputs,
-                pending: Pending::new(),
-                program_break: Break::behind(elf.top),
-                drawn: FIRST_RANDOM,
-                clock: 0,
-            },
-            end: None,
+        host: Host {
+            pages,
+            held,
+            outputs,
+            pending: Pending::new(alloc)?,
+            program_break: Break::behind(elf.top),
+            drawn: FIRST_RANDOM,
+            clock: 0,
         },
-        thread: Thread {
-            id: FIRST_THREAD,
-            regs,
-            place: Place::Loop,
-            flag: false,
-        },
+        end: None,
+        threads,
     })
 }
 

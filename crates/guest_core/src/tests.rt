@@ -41,6 +41,10 @@ fn a_run_up_to_its_end(rt: HostRuntime) -> Result<(), Fail> {
         None => assert!(rt; false),
     }
     assert!(rt; core.regs(1001).is_none());
+    assert_eq!(rt; core.place(FIRST_THREAD), Some(Place::Loop));
+    assert_eq!(rt; core.place(1001), None);
+    assert_eq!(rt; core.flag(FIRST_THREAD), Some(false));
+    assert_eq!(rt; core.flag(1001), None);
     assert_eq!(rt; core.run_events(&[STEP, STEP, STEP]), Ok(()));
     assert!(rt; core.ended().is_none());
     // the fifth step ends the process, and the sixth isn't enabled

@@ -1,4 +1,5 @@
 pub mod ByteFacts
 pub mod CallsOwe
+pub mod MarkFacts
 pub mod Places
 pub mod Shapes

@@ -1,5 +1,5 @@
 -- Where the highest free range lies.
-use Rattle.std.proofs.Common.{◌≡◌, ℕ, zero, suc, ◌+◌, ◌-◌, ◌*◌, ◌%◌, ◌<◌, ◌≤◌, Bool, true, false, cond, List, Option, Some, None, arith}
+use Rattle.std.proofs.Common.{◌≡◌, ℕ, zero, suc, ◌+◌, ◌-◌, ◌*◌, ◌%◌, ◌<◌, ◌≤◌, Bool, true, false, cond, List, Some, arith}
 use Rattle.guest_pages.specs.Finding.{any_mapped, free_place, highest_free}
 use Rattle.guest_pages.specs.Limits.{user_end}
 use Rattle.guest_pages.specs.Ranges.{Range}

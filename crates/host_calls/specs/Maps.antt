@@ -2,7 +2,7 @@
 -- Source: brk(2), mmap(2), munmap(2), mprotect(2). That code can't be unmapped, changed or mapped over, that no page gets the
 -- right to execute, where a map without a place goes, and the bounds are the project's own. A length is rounded up to
 -- whole pages, and flags without a name are passed over.
-use Rattle.std.specs.Prelude.{ℕ, ◌+◌, ◌-◌, ◌*◌, ◌/◌, ◌%◌, ◌==◌, nat_lt, min, Bool, true, false, not, ◌&&◌, ◌||◌, if◌then◌else◌, pos, List, [], ◌∷◌, length, is_some, Option, Some, None}
+use Rattle.std.specs.Prelude.{ℕ, ◌+◌, ◌-◌, ◌*◌, ◌/◌, ◌%◌, ◌==◌, nat_lt, min, Bool, false, not, ◌&&◌, ◌||◌, if◌then◌else◌, pos, List, [], ◌∷◌, length, is_some, Option, Some, None}
 use Rattle.file_tree.specs.declared.errno.Errno.TheVariants.{EACCES, EBADF, EEXIST, EINVAL, ENODEV, ENOMEM}
 use Rattle.guest_pages.specs.declared.rights.Rights.{Rights}
 use Rattle.guest_pages.specs.Faults.{changeable, first_unmapped}

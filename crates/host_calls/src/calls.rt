@@ -18,7 +18,7 @@ use std::alloc::AllocError;
 pub fn immediate(host: &mut Host, thread: u32, call: &Call) -> Result<i64, AllocError>
     ensures answer { IfOk result (λ answer. gives answer host.new ≡ answer_of thread call.now (shared_of host.old)) }
     ensures owes { IfOk result (λ answer. Owes thread (shared_of host.old) (shared_of host.new)) }
-    ensures noted { host.new.pending.noted ≡ host.old.pending.noted }
+    ensures pending { host.new.pending ≡ host.old.pending }
     ensures err { OnErr result (host.new ≡ host.old) }
 {
     host.answer(thread, call)
@@ -28,7 +28,7 @@ impl Host {
     #[tactic(auto, unfolding(crate::specs::Immediate::immediate))]
     fn answer(&mut self, thread: u32, call: &Call) -> Result<i64, AllocError>
         ensures answer { IfOk result (λ answer. gives answer self.new ≡ answer_of thread call.now (shared_of self.old)) }
-        ensures noted { self.new.pending.noted ≡ self.old.pending.noted }
+        ensures pending { self.new.pending ≡ self.old.pending }
         ensures err { OnErr result (self.new ≡ self.old) }
     {
         let answer = self.make(thread, call)?;
@@ -38,7 +38,7 @@ impl Host {
 
     fn make(&mut self, thread: u32, call: &Call) -> Result<i64, AllocError>
         ensures answer { IfOk result (λ answer. gives answer self.new ≡ made call.now.no thread call.now.args (shared_of self.old)) }
-        ensures noted { self.new.pending.noted ≡ self.old.pending.noted }
+        ensures pending { self.new.pending ≡ self.old.pending }
         ensures err { OnErr result (self.new ≡ self.old) }
     {
         let [a0, a1, a2, a3, a4, a5] = call.args;

@@ -22,7 +22,7 @@ impl Host {
     #[tactic(auto, unfolding(crate::specs::Descriptors::write))]
     pub(crate) fn write(&mut self, descriptor: u64, at: u64, wish: u64) -> Result<i64, AllocError>
         ensures answer { IfOk result (λ answer. gives answer self.new ≡ write descriptor at wish (shared_of self.old)) }
-        ensures noted { self.new.pending.noted ≡ self.old.pending.noted }
+        ensures pending { self.new.pending ≡ self.old.pending }
         ensures err { OnErr result (self.new ≡ self.old) }
     {
         if self.outputs.len() as u64 <= descriptor {

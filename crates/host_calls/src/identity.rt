@@ -58,7 +58,7 @@ impl Host {
     /// References: uname(2).
     pub(crate) fn uname(&mut self, thread: u32, at: u64) -> Result<i64, AllocError>
         ensures answer { IfOk result (λ answer. gives answer self.new ≡ tells_names thread at (shared_of self.old)) }
-        ensures noted { self.new.pending.noted ≡ self.old.pending.noted }
+        ensures pending { self.new.pending ≡ self.old.pending }
         ensures err { OnErr result (self.new ≡ self.old) }
     {
         let bytes = names(self.outputs.alloc())?;
@@ -78,7 +78,7 @@ impl Host {
         old: u64,
     ) -> Result<i64, AllocError>
         ensures answer { IfOk result (λ answer. gives answer self.new ≡ tells_limit thread pid resource new old (shared_of self.old)) }
-        ensures noted { self.new.pending.noted ≡ self.old.pending.noted }
+        ensures pending { self.new.pending ≡ self.old.pending }
         ensures err { OnErr result (self.new ≡ self.old) }
     {
         if old != 0 && self.pages.allows(old, 16, WRITABLE).is_err() {
@@ -95,7 +95,7 @@ impl Host {
 
     fn tell_limit(&mut self, thread: u32, resource: u64, old: u64) -> Result<i64, AllocError>
         ensures answer { IfOk result (λ answer. gives answer self.new ≡ told_limit thread resource old (shared_of self.old)) }
-        ensures noted { self.new.pending.noted ≡ self.old.pending.noted }
+        ensures pending { self.new.pending ≡ self.old.pending }
         ensures err { OnErr result (self.new ≡ self.old) }
     {
         if old == 0 {
@@ -111,7 +111,7 @@ impl Host {
     #[tactic(auto, unfolding(crate::specs::Identity::getrandom))]
     pub(crate) fn getrandom(&mut self, thread: u32, at: u64, wish: u64) -> Result<i64, AllocError>
         ensures answer { IfOk result (λ answer. gives answer self.new ≡ draws thread at wish (shared_of self.old)) }
-        ensures noted { self.new.pending.noted ≡ self.old.pending.noted }
+        ensures pending { self.new.pending ≡ self.old.pending }
         ensures err { OnErr result (self.new ≡ self.old) }
     {
         let bytes = drawn(self.outputs.alloc(), self.drawn, wish.min(MOST_RANDOM))?;

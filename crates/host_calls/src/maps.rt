@@ -65,7 +65,7 @@ impl Host {
     #[tactic(auto, unfolding(crate::specs::Maps::munmap))]
     pub(crate) fn munmap(&mut self, at: u64, length: u64) -> i64
         ensures answer { gives result self.new ≡ unmaps at length (shared_of self.old) }
-        ensures noted { self.new.pending.noted ≡ self.old.pending.noted }
+        ensures pending { self.new.pending ≡ self.old.pending }
     {
         let count = pages_of(length);
         if at % PAGE_SIZE != 0 || length == 0 || is_outside(at, count) {
@@ -89,7 +89,7 @@ impl Host {
         protection: u64,
     ) -> Result<i64, AllocError>
         ensures answer { IfOk result (λ answer. gives answer self.new ≡ protects at length protection (shared_of self.old)) }
-        ensures noted { self.new.pending.noted ≡ self.old.pending.noted }
+        ensures pending { self.new.pending ≡ self.old.pending }
         ensures err { OnErr result (self.new ≡ self.old) }
     {
         let count = pages_of(length);
@@ -125,7 +125,7 @@ impl Host {
         offset: u64,
     ) -> Result<i64, AllocError>
         ensures answer { IfOk result (λ answer. gives answer self.new ≡ maps at size protection flags descriptor offset (shared_of self.old)) }
-        ensures noted { self.new.pending.noted ≡ self.old.pending.noted }
+        ensures pending { self.new.pending ≡ self.old.pending }
         ensures err { OnErr result (self.new ≡ self.old) }
     {
         if are_wrong(flags)
@@ -157,7 +157,7 @@ impl Host {
     ) -> Result<i64, AllocError>
         requires { at % 4096 ≡ 0 }
         ensures answer { IfOk result (λ answer. gives answer self.new ≡ mapped_fixed at (4096 * count) rights flags (shared_of self.old)) }
-        ensures noted { self.new.pending.noted ≡ self.old.pending.noted }
+        ensures pending { self.new.pending ≡ self.old.pending }
         ensures err { OnErr result (self.new ≡ self.old) }
     {
         if has_bit(flags, 0x10_0000) && self.has_maps(at, count) {
@@ -178,7 +178,7 @@ impl Host {
     #[tactic(auto, unfolding(crate::specs::Maps::mapped_anywhere))]
     fn map_anywhere(&mut self, count: u64, rights: Rights, flags: u64) -> Result<i64, AllocError>
         ensures answer { IfOk result (λ answer. gives answer self.new ≡ mapped_anywhere count rights flags (shared_of self.old)) }
-        ensures noted { self.new.pending.noted ≡ self.old.pending.noted }
+        ensures pending { self.new.pending ≡ self.old.pending }
         ensures err { OnErr result (self.new ≡ self.old) }
     {
         if !has_bit(flags, 0x20) {
@@ -194,7 +194,7 @@ impl Host {
         requires aligned { at % 4096 ≡ 0 }
         requires inside { at + 4096 * count ≤ user_end }
         ensures answer { IfOk result (λ answer. gives answer self.new ≡ mapped_at at (4096 * count) rights (shared_of self.old)) }
-        ensures noted { self.new.pending.noted ≡ self.old.pending.noted }
+        ensures pending { self.new.pending ≡ self.old.pending }
         ensures err { OnErr result (self.new ≡ self.old) }
     {
         let alloc = self.outputs.alloc();
@@ -212,7 +212,7 @@ impl Host {
     #[tactic(auto, unfolding(crate::specs::Maps::brk))]
     pub(crate) fn brk(&mut self, wish: u64) -> Result<i64, AllocError>
         ensures answer { IfOk result (λ answer. gives answer self.new ≡ moves_break wish (shared_of self.old)) }
-        ensures noted { self.new.pending.noted ≡ self.old.pending.noted }
+        ensures pending { self.new.pending ≡ self.old.pending }
         ensures err { OnErr result (self.new ≡ self.old) }
     {
         let first = self.program_break.first();
@@ -236,7 +236,7 @@ impl Host {
         requires high { address ≤ self.old.program_break.first + most_break }
         requires small { address ≤ user_end }
         ensures answer { IfOk result (λ answer. gives answer self.new ≡ raised address from (4096 * count) (shared_of self.old)) }
-        ensures noted { self.new.pending.noted ≡ self.old.pending.noted }
+        ensures pending { self.new.pending ≡ self.old.pending }
         ensures err { OnErr result (self.new ≡ self.old) }
     {
         if self.pages.any_mapped(from, count) {
@@ -262,7 +262,7 @@ impl Host {
         requires high { address ≤ self.old.program_break.first + most_break }
         requires small { address ≤ user_end }
         ensures answer { gives result self.new ≡ lowered address from (4096 * count) (shared_of self.old) }
-        ensures noted { self.new.pending.noted ≡ self.old.pending.noted }
+        ensures pending { self.new.pending ≡ self.old.pending }
     {
         if self.pages.touches_code(from, count) {
             return self.program_break.present() as i64;

@@ -13,7 +13,7 @@ impl Host {
     #[tactic(auto, unfolding(crate::specs::Answers::stored))]
     pub(crate) fn store(&mut self, thread: u32, at: u64, bytes: &[u8], answer: i64) -> i64
         ensures answer { gives result self.new ≡ stored thread at bytes.now answer (shared_of self.old) }
-        ensures noted { self.new.pending.noted ≡ self.old.pending.noted }
+        ensures pending { self.new.pending ≡ self.old.pending }
     {
         if self.pages.copy_in(at, bytes).is_err() {
             return -Errno::EFAULT.code();

@@ -23,7 +23,7 @@ fn host(alloc: Global) -> Result<Host, Fail> {
         pages,
         held: Reservations::new(alloc),
         outputs: Outputs::new(alloc, 2)?,
-        pending: Pending::new(),
+        pending: Pending::new(alloc)?,
         program_break: Break::behind(0x1_F001),
         drawn: 16,
         clock: 0,

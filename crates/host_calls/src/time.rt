@@ -22,7 +22,7 @@ impl Host {
         at: u64,
     ) -> Result<i64, AllocError>
         ensures answer { IfOk result (λ answer. gives answer self.new ≡ tells_time thread clock at (shared_of self.old)) }
-        ensures noted { self.new.pending.noted ≡ self.old.pending.noted }
+        ensures pending { self.new.pending ≡ self.old.pending }
         ensures err { OnErr result (self.new ≡ self.old) }
     {
         if clock != 0 && clock != 1 {

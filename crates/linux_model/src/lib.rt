@@ -2,12 +2,12 @@
 //!
 //! # Model
 //!
-//! A `ProcessState` has what the system has (`Shared`, the same record as the emulator's), of each thread its id and its
-//! registers, and the end. There is one thread yet. It changes by labels: `Instr` makes an instruction of a thread,
-//! `Call` its system call at an `ecall`, `Take` takes the first signal that is due to it, and `Tick` lets 100 ns pass.
-//! What a thread's label sees and changes is what the system has and that thread alone (`TaskContext`). `step` gives the
-//! state after a label, none where the label isn't allowed, and `follow` carries that over a list. What is seen of a run
-//! is what was written to each device, and the end.
+//! A `ProcessState` is a system of tasks, in the form that the emulator's machine has (`guest_core`): what the system has
+//! (`Shared`), of each thread its registers under its id, and the end. It changes by labels: `Instr` makes an instruction of
+//! a thread, `Call` its system call at an `ecall`, `Take` takes the first signal that is due to it, and `Tick` lets 100 ns
+//! pass. What a thread's label sees is what the system has and that thread alone. `step` gives the state after a label, none
+//! where the label isn't allowed, and `follow` carries that over a list. What is seen of a run is what was written to each
+//! device, and the end. The walker walks a process of one thread.
 //!
 //! The effects of instructions, calls and signals are the definitions that the emulator's core cites too. The rest is
 //! apart: the process knows no place, flag, window, noted signal or journal.

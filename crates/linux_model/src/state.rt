@@ -1,7 +1,7 @@
 ghost use Rattle.std.specs.Prelude.{◌≡◌, None, Some, IfOk, OnOk, OnErr, Ok, IsOk, false, MatchBool};
 ghost use Rattle.guest_core.specs.Call.{called};
 ghost use Rattle.linux_model.specs.Steps.{call_done, makes_call, makes_instruction, takes};
-ghost use Rattle.linux_model.specs.Walker.{context};
+ghost use Rattle.linux_model.specs.Walker.{after, context, process};
 
 use crate::task::Task;
 use file_tree::Errno;
@@ -22,14 +22,16 @@ impl State {
     /// Makes an instruction, or answers false where none is allowed. Then, and after want of memory, all is as before.
     #[tactic(auto, unfolding(crate::specs::Steps::makes_instruction))]
     pub fn instruction(&mut self) -> Result<bool, AllocError>
+        requires { self.old.end ≡ None }
         ensures made { IfOk result (λ made. MatchBool made
-            (makes_instruction (context self.old) ≡ Some (context self.new))
+            (makes_instruction (context self.old) ≡ Some (after self.new))
             (makes_instruction (context self.old) ≡ None)) }
-        ensures refused { result ≡ Ok false → context self.new ≡ context self.old }
-        ensures err { OnErr result (context self.new ≡ context self.old) }
+        ensures refused { result ≡ Ok false → process self.new ≡ process self.old }
+        ensures err { OnErr result (process self.new ≡ process self.old) }
+        ensures id { self.new.task.id ≡ self.old.task.id }
         ensures free { makes_instruction (context self.old) ≡ None → IsOk result }
     {
-        if self.host.pending.first().is_some() {
+        if self.host.pending.first(self.task.id).is_some() {
             return Ok(false);
         }
         match make_instruction(
@@ -41,7 +43,7 @@ impl State {
             Ok(Made::Done) => Ok(true),
             Ok(Made::Call) => Ok(false),
             Err(fault) => {
-                self.host.pending.send_forced(fault)?;
+                self.host.pending.send_forced(self.task.id, fault)?;
                 Ok(true)
             }
         }
@@ -50,14 +52,18 @@ impl State {
     /// Makes a system call, or answers false where none is allowed. Then, and after want of memory, all is as before.
     #[tactic(auto, unfolding(crate::specs::Steps::makes_call))]
     pub fn call(&mut self) -> Result<bool, AllocError>
+        requires { self.old.end ≡ None }
         ensures made { IfOk result (λ made. MatchBool made
-            (makes_call (context self.old) ≡ Some (context self.new))
+            (makes_call (context self.old) ≡ Some (after self.new))
             (makes_call (context self.old) ≡ None)) }
         ensures refused { result ≡ Ok false → self.new ≡ self.old }
         ensures err { OnErr result (self.new ≡ self.old) }
+        ensures id { self.new.task.id ≡ self.old.task.id }
         ensures free { makes_call (context self.old) ≡ None → IsOk result }
     {
-        if self.host.pending.first().is_some() || !is_at_call(&self.task.regs, &self.host.pages) {
+        if self.host.pending.first(self.task.id).is_some()
+            || !is_at_call(&self.task.regs, &self.host.pages)
+        {
             return Ok(false);
         }
         self.make_call()?;
@@ -66,8 +72,10 @@ impl State {
 
     #[tactic(auto, unfolding(guest_core::specs::Call::called))]
     fn make_call(&mut self) -> Result<(), AllocError>
-        ensures ok { OnOk result (context self.new ≡ call_done (called self.old.task.id self.old.task.regs (context self.old).shared) (context self.old)) }
+        requires { self.old.end ≡ None }
+        ensures ok { OnOk result (after self.new ≡ call_done (called self.old.task.id self.old.task.regs (context self.old).shared) (context self.old)) }
         ensures err { OnErr result (self.new ≡ self.old) }
+        ensures id { self.new.task.id ≡ self.old.task.id }
     {
         let Some(call) = asked(&self.task.regs) else {
             self.host.held.end(self.task.id);
@@ -87,19 +95,21 @@ impl State {
     /// Takes the first due signal, or answers false where it is another. Then all is as before.
     #[tactic(auto, unfolding(crate::specs::Steps::takes))]
     pub fn take(&mut self, id: u64) -> bool
-        ensures made { MatchBool result (takes id (context self.old) ≡ Some (context self.new)) (takes id (context self.old) ≡ None) }
+        ensures same { self.new.task ≡ self.old.task }
+        ensures made { MatchBool result (takes id (context self.old) ≡ Some (after self.new)) (takes id (context self.old) ≡ None) }
         ensures refused { result ≡ false → self.new ≡ self.old }
     {
-        let Some(instance) = self.host.pending.first() else {
-            return false;
-        };
-        if instance.id != id {
-            return false;
+        match self.host.pending.first(self.task.id) {
+            Some(instance) if instance.id == id => {}
+            _ => return false,
         }
-        let Instance { id: _, fault } = instance;
-        let Fault { signal, .. } = fault;
-        self.host.pending.take(instance);
-        self.end = Some(End::Killed(signal));
-        true
+        match self.host.pending.take_first(self.task.id) {
+            Some(Instance { fault, .. }) => {
+                let Fault { signal, .. } = fault;
+                self.end = Some(End::Killed(signal));
+                true
+            }
+            None => false,
+        }
     }
 }

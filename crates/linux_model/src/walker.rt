@@ -1,6 +1,6 @@
 ghost use Rattle.std.specs.Prelude.{◌≡◌, ◌↔◌, ◌<◌, [], ◌∷◌, None, Some, map, IsSome, IfSome, IfOk, OnErr, Ok, false, MatchBool, length, slice_index_or};
 ghost use Rattle.std.specs.Option.{option_copied, option_map};
-ghost use Rattle.linux_model.specs.Process.{task_at};
+ghost use Rattle.guest_core.specs.System.{found};
 ghost use Rattle.linux_model.specs.Steps.{step};
 
 use crate::labels::Label;
@@ -18,12 +18,12 @@ pub struct Process {
 }
 
 impl Model for Process {
-    ghost use Rattle.linux_model.specs.Process.{ProcessState, alone};
-    ghost use Rattle.linux_model.specs.Walker.{context};
+    ghost use Rattle.linux_model.specs.Process.{ProcessState};
+    ghost use Rattle.linux_model.specs.Walker.{process as process_of};
 
     ghost Value = { ProcessState };
 
-    ghost view = { λ process. alone (context process.state) };
+    ghost view = { λ process. process_of process.state };
 }
 
 impl Process {
@@ -37,12 +37,12 @@ impl Process {
         requires { (program : Program) × (devices : ℕ) × (core ≡ started program devices) }
         ensures { (program : Program) (devices : ℕ) → core ≡ started program devices → result ≡ begun program devices }
     {
-        let CoreParts { host, regs } = core.into_parts();
+        let CoreParts { host, threads } = core.into_parts();
         let state = State {
             host,
             task: Task {
                 id: FIRST_THREAD,
-                regs,
+                regs: threads[0].regs,
             },
             end: None,
         };
@@ -58,7 +58,7 @@ impl Process {
 
     /// The registers of a thread, `None` exactly where it does not live.
     pub fn regs(&self, thread: u32) -> Option<&Regs>
-        ensures { option_copied result ≡ option_map (λ task. task.regs) (task_at thread self.now.tasks) }
+        ensures { option_copied result ≡ option_map (λ task. task.regs) (found thread self.now.members) }
     {
         if thread == self.state.task.id {
             Some(&self.state.task.regs)

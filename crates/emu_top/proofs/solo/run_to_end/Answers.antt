@@ -1,5 +1,6 @@
 use Rattle.std.proofs.Common.{◌<◌, ◌≤◌, ◌+◌, ◌-◌, ap, length, arith}
 use Rattle.emu_top.proofs.RunFacts.{SoFar, Turned, ahead_longer, so_far_ahead, so_far_turned, stopped_at, stopped_here, turned_longer}
+use Rattle.emu_top.proofs.ScheduleFacts.{ahead_one}
 use Rattle.emu_top.proofs.SendFacts.{unread_on, unread_still}
 use Rattle.emu_top.proofs.solo.run_to_end.Goals as goal
 
@@ -67,6 +68,7 @@ loop-preserved g c =
     } in
     let next = so_far_turned g.D.Device.held g.D.Device.failed_writes first c.go_ahead.new.run c.turn.new.run ahead turned more in
     record {
+      one = c.turn.ensures.one;
       ran = next.ran;
       turns = omega (arith, c.loop.invariant.turns, ahead_longer now c.go_ahead.new.run _ c.go_ahead.ensures, turned_longer g.D.Device.held g.D.Device.failed_writes c.go_ahead.new.run c.turn.new.run turned);
       within = next.within;
@@ -81,3 +83,6 @@ loop-preserved g c =
           (unread_still g.D.Device.left g.D.Device.failed_reads now.devices.items c.go_ahead.new.run.devices.items (ap (λ devices. devices.items) c.go_ahead.ensures.devices)))
           c.in-Ok-turn.ensures.unread;
     }
+
+pub turn-requires-clause-one : goal.turn-requires-clause-one
+turn-requires-clause-one g c = ahead_one c.loop.run c.go_ahead.new.run _ c.loop.invariant.one c.go_ahead.ensures

@@ -1,11 +1,12 @@
 use Rattle.std.proofs.Common.{◌≡◌, ◌≤◌, Some, map, length}
 use Rattle.guest_core.specs.Event.{run}
-use Rattle.emu_top.specs.Running.{KeepsSent}
+use Rattle.emu_top.specs.Running.{KeepsSent, OneLives}
 use Rattle.emu_top.specs.Sending.{AreUnread, NoneFell}
 use Rattle.emu_top.proofs.solo.run_to_end.Given as goal
 
 abbrev pub invariant-loop : goal.invariant-loop
 invariant-loop g l = record {
+  one : OneLives l.run.core;
   ran : run (Some l.initial.run.core) l.run.journal.events ≡ Some l.run.core;
   turns : l.counter ≤ length l.run.journal.events;
   within : length l.run.journal.events ≤ l.initial.run.journal.budget;

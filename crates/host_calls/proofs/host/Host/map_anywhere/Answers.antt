@@ -1,4 +1,4 @@
-use Rattle.std.proofs.Common.{◌≡◌, sym, ◌∙◌, Some}
+use Rattle.std.proofs.Common.{sym, ◌∙◌}
 use Rattle.host_calls.proofs.Places.{place_aligned, place_inside}
 use Rattle.host_calls.proofs.host.Host.map_anywhere.Goals as goal
 
