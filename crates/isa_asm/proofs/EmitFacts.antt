@@ -1,5 +1,5 @@
 -- What is added spells what statements become.
-use Rattle.std.proofs.Common.{◌≡◌, ℕ, ◌+◌, ◌<◌, ◌≤◌, Bool, true, false, cond, Option, Some, None, length, drop, get_or, arith, List, [], ◌∷◌, ◌++◌, refl, subst, sym, ap, ◌∙◌, append_assoc}
+use Rattle.std.proofs.Common.{◌≡◌, ℕ, ◌+◌, ◌^◌, ◌<◌, ◌≤◌, Bool, true, false, cond, Option, Some, None, length, drop, get_or, arith, List, [], ◌∷◌, ◌++◌, refl, subst, sym, ap, ◌∙◌, append_assoc}
 use Rattle.std.specs.Int.{w32, to_le_bytes}
 use Rattle.std.proofs.lemmas.List.{append-nil}
 use Rattle.isa_decode.specs.declared.instruction.Instr.{Instr}
@@ -14,8 +14,8 @@ use Rattle.std.proofs.lemmas.Grind.{common_steps}
 
 pub spells_append : (one other : List Item) (front behind : List ℕ) → Spells one front → Spells other behind → Spells (one ++ other) (front ++ behind)
 spells_append [] other front behind h k = let P : List ℕ → Type 0 = λ bytes. Spells other bytes in subst P (ap (λ (bytes : List ℕ). bytes ++ behind) (sym h)) k
-spells_append (Instruction instr ∷ one) other front behind (word, rest, stands, is, spells) k =
-    (word, rest ++ behind, stands, ap (λ (bytes : List ℕ). bytes ++ behind) is ∙ append_assoc (to_le_bytes w32 word) rest behind, spells_append one other rest behind spells k)
+spells_append (Instruction instr ∷ one) other front behind (word, rest, small, stands, is, spells) k =
+    (word, rest ++ behind, small, stands, ap (λ (bytes : List ℕ). bytes ++ behind) is ∙ append_assoc (to_le_bytes w32 word) rest behind, spells_append one other rest behind spells k)
 spells_append (Byte byte ∷ one) other front behind (rest, is, spells) k =
     (rest ++ behind, ap (λ (bytes : List ℕ). bytes ++ behind) is, spells_append one other rest behind spells k)
 
@@ -29,8 +29,8 @@ emits_nothing out = ([], refl, sym (append-nil out))
 pub emits_bytes : (bytes before after : List ℕ) → after ≡ before ++ bytes → Emits (byte_items bytes) before after
 emits_bytes bytes before after is = (bytes, spells_bytes bytes, is)
 
-pub emits_word : (word : ℕ) (instr : Instr) (before after : List ℕ) → IsWord word instr → after ≡ before ++ to_le_bytes w32 word → Emits (Instruction instr ∷ []) before after
-emits_word word instr before after stands is = (to_le_bytes w32 word, (word, [], stands, sym (append-nil (to_le_bytes w32 word)), refl), is)
+pub emits_word : (word : ℕ) (instr : Instr) (before after : List ℕ) → word < 2 ^ 32 → IsWord word instr → after ≡ before ++ to_le_bytes w32 word → Emits (Instruction instr ∷ []) before after
+emits_word word instr before after small stands is = (to_le_bytes w32 word, (word, [], small, stands, sym (append-nil (to_le_bytes w32 word)), refl), is)
 
 emits_append : (one other : List Item) (before between after : List ℕ) → Emits one before between → Emits other between after → Emits (one ++ other) before after
 emits_append one other before between after (front, spells, is) (behind, spells_behind, is_behind) =

@@ -1,19 +1,16 @@
 -- A printed instruction means itself.
-use Rattle.std.proofs.Common.{◌≡◌, ◌≢◌, ℕ, zero, suc, ◌+◌, ◌-◌, ◌*◌, ◌/◌, ◌%◌, ◌^◌, ◌<◌, ◌≤◌, ◌==◌, Bool, true, false, cond, ◌&&◌, List, [], ◌∷◌, ◌++◌, length, get_or, Option, Some, None, Result, Ok, Err, ℤ, pos, negsuc, neg_ℤ, ◌-ℤ◌, ◌≤ℤ◌, ◌<ℤ◌, nat_lt, refl, sym, ap, ◌∙◌, append_assoc, arith}
-use Rattle.std.specs.Prelude.{not, ◌||◌, fold, codes, nat_le, unsigned_abs}
+use Rattle.std.proofs.Common.{◌≡◌, ℕ, zero, suc, ◌+◌, ◌-◌, ◌*◌, ◌/◌, ◌%◌, ◌^◌, ◌<◌, ◌≤◌, ◌==◌, Bool, true, false, cond, ◌&&◌, List, [], ◌∷◌, ◌++◌, length, get_or, Option, Some, None, Ok, ℤ, pos, negsuc, ◌-ℤ◌, nat_lt, refl, sym, ap, ◌∙◌, append_assoc, arith}
+use Rattle.std.specs.Prelude.{not, ◌||◌, codes, nat_le}
 use Rattle.std.specs.Fmt.{decimal, digits, signed_decimal}
 use Rattle.std.specs.Int.{w64, cast_unsigned}
 use Rattle.std.specs.List.{list_all}
-use Rattle.std.specs.Option.{option_map, option_and_then}
 use Rattle.std.proofs.lemmas.Bool.Decides.{nat_tests}
 use Rattle.std.proofs.lemmas.Fmt.{decimal_by_steps, decimal_digit, decimal_nonempty, first_decimal}
-use Rattle.std.proofs.lemmas.Grind.{common_steps}
 use Rattle.std.proofs.lemmas.Int.{ints}
-use Rattle.std.proofs.lemmas.List.{append-nil}
 use Rattle.std.proofs.lemmas.List.Folds.{list_all-append}
 use Rattle.std.proofs.lemmas.List.Sums.{fold_push}
 use Rattle.isa_decode.specs.Fields.{bits, reading}
-use Rattle.isa_decode.specs.Ranges.{InRange, IsAmount, IsImmediate, IsOperand, IsShort}
+use Rattle.isa_decode.specs.Ranges.{InRange, IsAmount, IsImmediate, IsOperand}
 use Rattle.isa_decode.specs.declared.instruction.Instr.{Instr}
 use Rattle.isa_decode.specs.declared.instruction.Instr.TheVariants.{Lui, Auipc, Jal, Jalr, Branch, Load, Store, OpImm, Op, LoadReserved, StoreConditional, Amo, Fence, Ecall, Ebreak}
 use Rattle.isa_decode.specs.declared.instruction.Cmp.{Cmp}
@@ -26,26 +23,24 @@ use Rattle.isa_decode.specs.declared.instruction.ImmOp.{ImmOp}
 use Rattle.isa_decode.specs.declared.instruction.ImmOp.TheVariants.{Addi, Slti, Sltiu, Xori, Ori, Andi, Slli, Srli, Srai, Addiw, Slliw, Srliw, Sraiw}
 use Rattle.isa_decode.specs.declared.instruction.AluOp.{AluOp}
 use Rattle.isa_decode.specs.declared.instruction.AluOp.TheVariants.{Add, Sub, Sll, Slt, Sltu, Xor, Srl, Sra, Or, And, Mul, Mulh, Mulhsu, Mulhu, Div, Divu, Rem, Remu, Addw, Subw, Sllw, Srlw, Sraw, Mulw, Divw, Divuw, Remw, Remuw}
-use Rattle.isa_decode.specs.declared.instruction.AmoOp.{AmoOp}
 use Rattle.isa_decode.specs.declared.instruction.AmoOp.TheVariants.{Amoswap, Amoadd, Amoxor, Amoand, Amoor, Amomin, Amomax, Amominu, Amomaxu}
 use Rattle.isa_print.specs.Texts.{address as address_text, address_with_offset, alu_name, amo_name, branch_name, imm_name, instruction_text, joined, load_name, order_suffix, register as register_text, statement, store_name, upper as upper_text, width_suffix}
-use Rattle.isa_asm.specs.declared.cause.AsmCause.{AsmCause}
 use Rattle.isa_asm.specs.declared.kind.Kind.{Kind}
 use Rattle.isa_asm.specs.declared.kind.Kind.TheVariants as kind
 use Rattle.isa_asm.specs.declared.kind.Atomic.{Atomic}
 use Rattle.isa_asm.specs.declared.kind.Atomic.TheVariants as atomic
 use Rattle.isa_asm.specs.declared.literal.Literal.{Literal}
 use Rattle.isa_asm.specs.Kinds.{atomic_named, kind_named}
-use Rattle.isa_asm.specs.Lexing.{Halves, before_blank, begins_name, behind_word, first_word, from_blank, halves, is_all_blank, is_blank, is_digit, is_name, only_word, without_front}
-use Rattle.isa_asm.specs.Literals.{behind_zero, digit_value, digits_of, digits_value, is_digit_of, literal, magnitude, signed_literal, some_digits, within}
+use Rattle.isa_asm.specs.Lexing.{before_blank, begins_name, behind_word, first_word, from_blank, halves, is_blank, is_digit, is_name, only_word, without_front}
+use Rattle.isa_asm.specs.Literals.{behind_zero, digit_value, digits_of, digits_value, is_digit_of, literal, magnitude, signed_literal}
 use Rattle.isa_asm.specs.Numbers.{natural, signed_64, upper}
-use Rattle.isa_asm.specs.Operands.{Target, Offset, Label, address, enclosed, memory, number, register, register_and_address, register_and_memory, register_and_number, register_and_target, register_first, target, three_registers, two_and_address, two_and_number, two_and_target, two_registers}
+use Rattle.isa_asm.specs.Operands.{Offset, address, enclosed, memory, number, register, register_and_address, register_and_memory, register_and_number, register_and_target, register_first, target, three_registers, two_and_address, two_and_number, two_and_target, two_registers}
 use Rattle.isa_asm.specs.Registers.{register_named}
-use Rattle.isa_asm.specs.Statement.{Meaning, One, alone, atomic_of, atomic_storing, auipc, body_meaning, branch, branch_to, fence, immediate, jal, jalr, jump_to, kind_meaning, load, load_reserved, lui, operation, store, storing}
+use Rattle.isa_asm.specs.Statement.{One, alone, atomic_of, atomic_storing, auipc, body_meaning, branch, branch_to, fence, immediate, jal, jalr, jump_to, kind_meaning, load, load_reserved, lui, operation, store, storing}
 use Rattle.isa_asm.proofs.RangeFacts.{both, joined as both_hold}
 
 -- what holds of each number below a bound, by trying them
-all_below : ℕ → (ℕ → Bool) → Bool
+unfoldable pub all_below : ℕ → (ℕ → Bool) → Bool
 all_below zero test = true
 all_below (suc k) test = test k && all_below k test
 
@@ -53,7 +48,7 @@ below_by : (same : Bool) (k n : ℕ) (test : ℕ → Bool) → (n == k) ≡ same
 below_by true k n test is here rest small = let equal : n ≡ k = grind (arith, nat_tests) in ap test equal ∙ here
 below_by false k n test is here rest small = rest (grind (arith, nat_tests))
 
-from_below : (k : ℕ) (test : ℕ → Bool) → all_below k test ≡ true → (n : ℕ) → n < k → test n ≡ true
+pub from_below : (k : ℕ) (test : ℕ → Bool) → all_below k test ≡ true → (n : ℕ) → n < k → test n ≡ true
 unfolding all_below
 from_below zero test h n small = absurd (omega arith)
 from_below (suc k) test h n small =
@@ -71,11 +66,11 @@ some_of n (Some m) h = let equal : m ≡ n = grind (arith, nat_tests) in ap Some
 no_dash : (byte : ℕ) → is_digit byte ≡ true → (byte == 45) ≡ false
 no_dash byte digit = grind (arith, nat_tests)
 
-not_true : (b : Bool) → not b ≡ true → b ≡ false
+pub not_true : (b : Bool) → not b ≡ true → b ≡ false
 not_true true h = cc
 not_true false h = refl
 
-solid_byte : (byte : ℕ) → not (is_blank byte) ≡ true → is_blank byte ≡ false
+pub solid_byte : (byte : ℕ) → not (is_blank byte) ≡ true → is_blank byte ≡ false
 solid_byte byte h = not_true (is_blank byte) h
 
 other_byte : (at byte : ℕ) → not (byte == at) ≡ true → (byte == at) ≡ false
@@ -85,13 +80,13 @@ same_test : (n : ℕ) → (n == n) ≡ true
 same_test n = grind (arith, nat_tests)
 
 -- the bytes of numbers
-is_number_byte : ℕ → Bool
+unfoldable pub is_number_byte : ℕ → Bool
 is_number_byte byte = is_digit byte || (byte == 45)
 
 -- digits of a number, the highest first
-record IsDigits (n : ℕ) (ds : List ℕ) : Type 0 where
-  digits : list_all is_digit ds ≡ true
-  value : digits_value 10 ds ≡ n
+pub record IsDigits (n : ℕ) (ds : List ℕ) : Type 0 where
+  pub digits : list_all is_digit ds ≡ true
+  pub value : digits_value 10 ds ≡ n
 
 one_digit : (n : ℕ) → n < 10 → IsDigits n ((48 + n) ∷ [])
 unfolding digits_value digit_value
@@ -111,18 +106,18 @@ more_digits n ds great front = record {
   value = fold_push (λ (value digit : ℕ). value * 10 + digit_value digit) 0 ds (48 + n % 10) ∙ more_value n (digits_value 10 ds) great front.value;
 }
 
-decimal_digits : (n : ℕ) → n < 2 ^ 64 → IsDigits n (decimal n)
+pub decimal_digits : (n : ℕ) → n < 2 ^ 64 → IsDigits n (decimal n)
 decimal_digits n small = decimal_by_steps (λ n ds. IsDigits n ds) one_digit more_digits n small
 
 -- what holds of all
-weaker : (p q : ℕ → Bool) → ((n : ℕ) → p n ≡ true → q n ≡ true) → (ds : List ℕ) → list_all p ds ≡ true → list_all q ds ≡ true
+pub weaker : (p q : ℕ → Bool) → ((n : ℕ) → p n ≡ true → q n ≡ true) → (ds : List ℕ) → list_all p ds ≡ true → list_all q ds ≡ true
 weaker p q h [] all = refl
 weaker p q h (d ∷ ds) all = let parts = both (p d) (list_all p ds) all in both_hold (q d) (list_all q ds) (h d parts.0) (weaker p q h ds parts.1)
 
 digit_of_ten : (byte : ℕ) → is_digit byte ≡ true → is_digit_of 10 byte ≡ true
 digit_of_ten byte h = rw h
 
-digit_is_number : (byte : ℕ) → is_digit byte ≡ true → is_number_byte byte ≡ true
+pub digit_is_number : (byte : ℕ) → is_digit byte ≡ true → is_number_byte byte ≡ true
 unfolding is_number_byte
 digit_is_number byte h = rw h
 
@@ -155,7 +150,7 @@ abbrev literal_of : ℤ → Literal
 literal_of (pos n) = record { negative = false; magnitude = Some n }
 literal_of (negsuc n) = record { negative = true; magnitude = Some (suc n) }
 
-abbrev size_below : ℕ → ℤ → Type 0
+abbrev pub size_below : ℕ → ℤ → Type 0
 size_below limit (pos n) = n < limit
 size_below limit (negsuc n) = suc n < limit
 
@@ -173,7 +168,7 @@ unfolding signed_64
 signed_is (pos n) small = let fits : nat_lt n (2 ^ 63) ≡ true = grind (arith, nat_tests) in rw fits
 signed_is (negsuc n) small = let fits : nat_le (suc n) (2 ^ 63) ≡ true = grind (arith, nat_tests) in rw fits
 
-signed_bytes : (z : ℤ) → size_below (2 ^ 63) z → list_all is_number_byte (signed_decimal z) ≡ true
+pub signed_bytes : (z : ℤ) → size_below (2 ^ 63) z → list_all is_number_byte (signed_decimal z) ≡ true
 unfolding is_number_byte
 signed_bytes (pos n) small = weaker is_digit is_number_byte digit_is_number (decimal n) (decimal_digits n (omega arith)).digits
 signed_bytes (negsuc n) small = weaker is_digit is_number_byte digit_is_number (decimal (suc n)) (decimal_digits (suc n) (omega arith)).digits
@@ -182,8 +177,12 @@ signed_length : (z : ℤ) → size_below (2 ^ 63) z → 0 < length (signed_decim
 signed_length (pos n) small = decimal_nonempty n (omega arith)
 signed_length (negsuc n) small = omega arith
 
+-- no newline, `;`, `:`, `"` or `#`, and no byte above 127
+abbrev pub is_calm : ℕ → Bool
+is_calm byte = not (byte == 10) && (not (byte == 59) && (not (byte == 58) && (not (byte == 34) && (not (byte == 35) && not (nat_lt 127 byte)))))
+
 -- words without blanks
-abbrev is_solid : ℕ → Bool
+abbrev pub is_solid : ℕ → Bool
 is_solid byte = not (is_blank byte)
 
 before_solid : (text rest : List ℕ) → list_all is_solid text ≡ true → before_blank (text ++ 32 ∷ rest) ≡ text
@@ -310,216 +309,222 @@ named_text (byte ∷ name) rest named solid some is =
     rw (plain, before_solid (byte ∷ name) rest solid, from_solid (byte ∷ name) rest solid, is)
 
 -- a name that is known, without blanks
-record IsKnown (name : List ℕ) (named : Kind) : Type 0 where
-  solid : list_all is_solid name ≡ true
-  some : nat_lt 0 (length name) ≡ true
-  known : kind_named name ≡ Some named
+pub record IsKnown (name : List ℕ) (named : Kind) : Type 0 where
+  pub solid : list_all is_solid name ≡ true
+  pub calm : list_all is_calm name ≡ true
+  pub some : nat_lt 0 (length name) ≡ true
+  pub known : kind_named name ≡ Some named
 
 known_text : (name rest : List ℕ) (named : Kind) → IsKnown name named → body_meaning (name ++ 32 ∷ rest) ≡ kind_meaning named (32 ∷ rest)
 known_text name rest named is = named_text name rest named is.solid (grind (arith, nat_tests, is.some)) is.known
 
-branch_known : (op : Cmp) → IsKnown (branch_name op) (kind.Branch op)
+pub branch_known : (op : Cmp) → IsKnown (branch_name op) (kind.Branch op)
 unfolding kind_named atomic_named halves
-branch_known Beq = record { solid = refl; some = refl; known = refl }
-branch_known Bne = record { solid = refl; some = refl; known = refl }
-branch_known Blt = record { solid = refl; some = refl; known = refl }
-branch_known Bge = record { solid = refl; some = refl; known = refl }
-branch_known Bltu = record { solid = refl; some = refl; known = refl }
-branch_known Bgeu = record { solid = refl; some = refl; known = refl }
+branch_known Beq = record { solid = refl; calm = refl; some = refl; known = refl }
+branch_known Bne = record { solid = refl; calm = refl; some = refl; known = refl }
+branch_known Blt = record { solid = refl; calm = refl; some = refl; known = refl }
+branch_known Bge = record { solid = refl; calm = refl; some = refl; known = refl }
+branch_known Bltu = record { solid = refl; calm = refl; some = refl; known = refl }
+branch_known Bgeu = record { solid = refl; calm = refl; some = refl; known = refl }
 
-load_known : (op : LoadKind) → IsKnown (load_name op) (kind.Load op)
+pub load_known : (op : LoadKind) → IsKnown (load_name op) (kind.Load op)
 unfolding kind_named atomic_named halves
-load_known Lb = record { solid = refl; some = refl; known = refl }
-load_known Lh = record { solid = refl; some = refl; known = refl }
-load_known Lw = record { solid = refl; some = refl; known = refl }
-load_known Ld = record { solid = refl; some = refl; known = refl }
-load_known Lbu = record { solid = refl; some = refl; known = refl }
-load_known Lhu = record { solid = refl; some = refl; known = refl }
-load_known Lwu = record { solid = refl; some = refl; known = refl }
+load_known Lb = record { solid = refl; calm = refl; some = refl; known = refl }
+load_known Lh = record { solid = refl; calm = refl; some = refl; known = refl }
+load_known Lw = record { solid = refl; calm = refl; some = refl; known = refl }
+load_known Ld = record { solid = refl; calm = refl; some = refl; known = refl }
+load_known Lbu = record { solid = refl; calm = refl; some = refl; known = refl }
+load_known Lhu = record { solid = refl; calm = refl; some = refl; known = refl }
+load_known Lwu = record { solid = refl; calm = refl; some = refl; known = refl }
 
-store_known : (op : Width) → IsKnown (store_name op) (kind.Store op)
+pub store_known : (op : Width) → IsKnown (store_name op) (kind.Store op)
 unfolding kind_named atomic_named halves
-store_known width.One = record { solid = refl; some = refl; known = refl }
-store_known width.Two = record { solid = refl; some = refl; known = refl }
-store_known width.Four = record { solid = refl; some = refl; known = refl }
-store_known width.Eight = record { solid = refl; some = refl; known = refl }
+store_known width.One = record { solid = refl; calm = refl; some = refl; known = refl }
+store_known width.Two = record { solid = refl; calm = refl; some = refl; known = refl }
+store_known width.Four = record { solid = refl; calm = refl; some = refl; known = refl }
+store_known width.Eight = record { solid = refl; calm = refl; some = refl; known = refl }
 
-immediate_known : (op : ImmOp) → IsKnown (imm_name op) (kind.Immediate op)
+pub immediate_known : (op : ImmOp) → IsKnown (imm_name op) (kind.Immediate op)
 unfolding kind_named atomic_named halves
-immediate_known Addi = record { solid = refl; some = refl; known = refl }
-immediate_known Slti = record { solid = refl; some = refl; known = refl }
-immediate_known Sltiu = record { solid = refl; some = refl; known = refl }
-immediate_known Xori = record { solid = refl; some = refl; known = refl }
-immediate_known Ori = record { solid = refl; some = refl; known = refl }
-immediate_known Andi = record { solid = refl; some = refl; known = refl }
-immediate_known Slli = record { solid = refl; some = refl; known = refl }
-immediate_known Srli = record { solid = refl; some = refl; known = refl }
-immediate_known Srai = record { solid = refl; some = refl; known = refl }
-immediate_known Addiw = record { solid = refl; some = refl; known = refl }
-immediate_known Slliw = record { solid = refl; some = refl; known = refl }
-immediate_known Srliw = record { solid = refl; some = refl; known = refl }
-immediate_known Sraiw = record { solid = refl; some = refl; known = refl }
+immediate_known Addi = record { solid = refl; calm = refl; some = refl; known = refl }
+immediate_known Slti = record { solid = refl; calm = refl; some = refl; known = refl }
+immediate_known Sltiu = record { solid = refl; calm = refl; some = refl; known = refl }
+immediate_known Xori = record { solid = refl; calm = refl; some = refl; known = refl }
+immediate_known Ori = record { solid = refl; calm = refl; some = refl; known = refl }
+immediate_known Andi = record { solid = refl; calm = refl; some = refl; known = refl }
+immediate_known Slli = record { solid = refl; calm = refl; some = refl; known = refl }
+immediate_known Srli = record { solid = refl; calm = refl; some = refl; known = refl }
+immediate_known Srai = record { solid = refl; calm = refl; some = refl; known = refl }
+immediate_known Addiw = record { solid = refl; calm = refl; some = refl; known = refl }
+immediate_known Slliw = record { solid = refl; calm = refl; some = refl; known = refl }
+immediate_known Srliw = record { solid = refl; calm = refl; some = refl; known = refl }
+immediate_known Sraiw = record { solid = refl; calm = refl; some = refl; known = refl }
 
-operation_known : (op : AluOp) → IsKnown (alu_name op) (kind.Operation op)
+pub operation_known : (op : AluOp) → IsKnown (alu_name op) (kind.Operation op)
 unfolding kind_named atomic_named halves
-operation_known Add = record { solid = refl; some = refl; known = refl }
-operation_known Sub = record { solid = refl; some = refl; known = refl }
-operation_known Sll = record { solid = refl; some = refl; known = refl }
-operation_known Slt = record { solid = refl; some = refl; known = refl }
-operation_known Sltu = record { solid = refl; some = refl; known = refl }
-operation_known Xor = record { solid = refl; some = refl; known = refl }
-operation_known Srl = record { solid = refl; some = refl; known = refl }
-operation_known Sra = record { solid = refl; some = refl; known = refl }
-operation_known Or = record { solid = refl; some = refl; known = refl }
-operation_known And = record { solid = refl; some = refl; known = refl }
-operation_known Mul = record { solid = refl; some = refl; known = refl }
-operation_known Mulh = record { solid = refl; some = refl; known = refl }
-operation_known Mulhsu = record { solid = refl; some = refl; known = refl }
-operation_known Mulhu = record { solid = refl; some = refl; known = refl }
-operation_known Div = record { solid = refl; some = refl; known = refl }
-operation_known Divu = record { solid = refl; some = refl; known = refl }
-operation_known Rem = record { solid = refl; some = refl; known = refl }
-operation_known Remu = record { solid = refl; some = refl; known = refl }
-operation_known Addw = record { solid = refl; some = refl; known = refl }
-operation_known Subw = record { solid = refl; some = refl; known = refl }
-operation_known Sllw = record { solid = refl; some = refl; known = refl }
-operation_known Srlw = record { solid = refl; some = refl; known = refl }
-operation_known Sraw = record { solid = refl; some = refl; known = refl }
-operation_known Mulw = record { solid = refl; some = refl; known = refl }
-operation_known Divw = record { solid = refl; some = refl; known = refl }
-operation_known Divuw = record { solid = refl; some = refl; known = refl }
-operation_known Remw = record { solid = refl; some = refl; known = refl }
-operation_known Remuw = record { solid = refl; some = refl; known = refl }
+operation_known Add = record { solid = refl; calm = refl; some = refl; known = refl }
+operation_known Sub = record { solid = refl; calm = refl; some = refl; known = refl }
+operation_known Sll = record { solid = refl; calm = refl; some = refl; known = refl }
+operation_known Slt = record { solid = refl; calm = refl; some = refl; known = refl }
+operation_known Sltu = record { solid = refl; calm = refl; some = refl; known = refl }
+operation_known Xor = record { solid = refl; calm = refl; some = refl; known = refl }
+operation_known Srl = record { solid = refl; calm = refl; some = refl; known = refl }
+operation_known Sra = record { solid = refl; calm = refl; some = refl; known = refl }
+operation_known Or = record { solid = refl; calm = refl; some = refl; known = refl }
+operation_known And = record { solid = refl; calm = refl; some = refl; known = refl }
+operation_known Mul = record { solid = refl; calm = refl; some = refl; known = refl }
+operation_known Mulh = record { solid = refl; calm = refl; some = refl; known = refl }
+operation_known Mulhsu = record { solid = refl; calm = refl; some = refl; known = refl }
+operation_known Mulhu = record { solid = refl; calm = refl; some = refl; known = refl }
+operation_known Div = record { solid = refl; calm = refl; some = refl; known = refl }
+operation_known Divu = record { solid = refl; calm = refl; some = refl; known = refl }
+operation_known Rem = record { solid = refl; calm = refl; some = refl; known = refl }
+operation_known Remu = record { solid = refl; calm = refl; some = refl; known = refl }
+operation_known Addw = record { solid = refl; calm = refl; some = refl; known = refl }
+operation_known Subw = record { solid = refl; calm = refl; some = refl; known = refl }
+operation_known Sllw = record { solid = refl; calm = refl; some = refl; known = refl }
+operation_known Srlw = record { solid = refl; calm = refl; some = refl; known = refl }
+operation_known Sraw = record { solid = refl; calm = refl; some = refl; known = refl }
+operation_known Mulw = record { solid = refl; calm = refl; some = refl; known = refl }
+operation_known Divw = record { solid = refl; calm = refl; some = refl; known = refl }
+operation_known Divuw = record { solid = refl; calm = refl; some = refl; known = refl }
+operation_known Remw = record { solid = refl; calm = refl; some = refl; known = refl }
+operation_known Remuw = record { solid = refl; calm = refl; some = refl; known = refl }
 
 -- the names of atomic operations
-abbrev atomic_text : Atomic → List ℕ
+abbrev pub atomic_text : Atomic → List ℕ
 atomic_text atomic.LoadReserved = codes "lr"
 atomic_text atomic.StoreConditional = codes "sc"
 atomic_text (atomic.Amo op) = amo_name op
 
-abbrev atomic_word : Atomic → Bool → ℕ → List ℕ
+abbrev pub atomic_word : Atomic → Bool → ℕ → List ℕ
 atomic_word op wide order = (atomic_text op ++ width_suffix wide) ++ order_suffix order
 
-atomic_known : (op : Atomic) (wide : Bool) (order : ℕ) → order < 4 → IsKnown (atomic_word op wide order) (kind.Atomic op wide order)
+pub atomic_known : (op : Atomic) (wide : Bool) (order : ℕ) → order < 4 → IsKnown (atomic_word op wide order) (kind.Atomic op wide order)
 unfolding kind_named atomic_named halves
-atomic_known atomic.LoadReserved true zero small = record { solid = refl; some = refl; known = refl }
-atomic_known atomic.LoadReserved true (suc zero) small = record { solid = refl; some = refl; known = refl }
-atomic_known atomic.LoadReserved true (suc (suc zero)) small = record { solid = refl; some = refl; known = refl }
-atomic_known atomic.LoadReserved true (suc (suc (suc zero))) small = record { solid = refl; some = refl; known = refl }
+atomic_known atomic.LoadReserved true zero small = record { solid = refl; calm = refl; some = refl; known = refl }
+atomic_known atomic.LoadReserved true (suc zero) small = record { solid = refl; calm = refl; some = refl; known = refl }
+atomic_known atomic.LoadReserved true (suc (suc zero)) small = record { solid = refl; calm = refl; some = refl; known = refl }
+atomic_known atomic.LoadReserved true (suc (suc (suc zero))) small = record { solid = refl; calm = refl; some = refl; known = refl }
 atomic_known atomic.LoadReserved true (suc (suc (suc (suc order)))) small = absurd (omega arith)
-atomic_known atomic.LoadReserved false zero small = record { solid = refl; some = refl; known = refl }
-atomic_known atomic.LoadReserved false (suc zero) small = record { solid = refl; some = refl; known = refl }
-atomic_known atomic.LoadReserved false (suc (suc zero)) small = record { solid = refl; some = refl; known = refl }
-atomic_known atomic.LoadReserved false (suc (suc (suc zero))) small = record { solid = refl; some = refl; known = refl }
+atomic_known atomic.LoadReserved false zero small = record { solid = refl; calm = refl; some = refl; known = refl }
+atomic_known atomic.LoadReserved false (suc zero) small = record { solid = refl; calm = refl; some = refl; known = refl }
+atomic_known atomic.LoadReserved false (suc (suc zero)) small = record { solid = refl; calm = refl; some = refl; known = refl }
+atomic_known atomic.LoadReserved false (suc (suc (suc zero))) small = record { solid = refl; calm = refl; some = refl; known = refl }
 atomic_known atomic.LoadReserved false (suc (suc (suc (suc order)))) small = absurd (omega arith)
-atomic_known atomic.StoreConditional true zero small = record { solid = refl; some = refl; known = refl }
-atomic_known atomic.StoreConditional true (suc zero) small = record { solid = refl; some = refl; known = refl }
-atomic_known atomic.StoreConditional true (suc (suc zero)) small = record { solid = refl; some = refl; known = refl }
-atomic_known atomic.StoreConditional true (suc (suc (suc zero))) small = record { solid = refl; some = refl; known = refl }
+atomic_known atomic.StoreConditional true zero small = record { solid = refl; calm = refl; some = refl; known = refl }
+atomic_known atomic.StoreConditional true (suc zero) small = record { solid = refl; calm = refl; some = refl; known = refl }
+atomic_known atomic.StoreConditional true (suc (suc zero)) small = record { solid = refl; calm = refl; some = refl; known = refl }
+atomic_known atomic.StoreConditional true (suc (suc (suc zero))) small = record { solid = refl; calm = refl; some = refl; known = refl }
 atomic_known atomic.StoreConditional true (suc (suc (suc (suc order)))) small = absurd (omega arith)
-atomic_known atomic.StoreConditional false zero small = record { solid = refl; some = refl; known = refl }
-atomic_known atomic.StoreConditional false (suc zero) small = record { solid = refl; some = refl; known = refl }
-atomic_known atomic.StoreConditional false (suc (suc zero)) small = record { solid = refl; some = refl; known = refl }
-atomic_known atomic.StoreConditional false (suc (suc (suc zero))) small = record { solid = refl; some = refl; known = refl }
+atomic_known atomic.StoreConditional false zero small = record { solid = refl; calm = refl; some = refl; known = refl }
+atomic_known atomic.StoreConditional false (suc zero) small = record { solid = refl; calm = refl; some = refl; known = refl }
+atomic_known atomic.StoreConditional false (suc (suc zero)) small = record { solid = refl; calm = refl; some = refl; known = refl }
+atomic_known atomic.StoreConditional false (suc (suc (suc zero))) small = record { solid = refl; calm = refl; some = refl; known = refl }
 atomic_known atomic.StoreConditional false (suc (suc (suc (suc order)))) small = absurd (omega arith)
-atomic_known (atomic.Amo Amoswap) true zero small = record { solid = refl; some = refl; known = refl }
-atomic_known (atomic.Amo Amoswap) true (suc zero) small = record { solid = refl; some = refl; known = refl }
-atomic_known (atomic.Amo Amoswap) true (suc (suc zero)) small = record { solid = refl; some = refl; known = refl }
-atomic_known (atomic.Amo Amoswap) true (suc (suc (suc zero))) small = record { solid = refl; some = refl; known = refl }
+atomic_known (atomic.Amo Amoswap) true zero small = record { solid = refl; calm = refl; some = refl; known = refl }
+atomic_known (atomic.Amo Amoswap) true (suc zero) small = record { solid = refl; calm = refl; some = refl; known = refl }
+atomic_known (atomic.Amo Amoswap) true (suc (suc zero)) small = record { solid = refl; calm = refl; some = refl; known = refl }
+atomic_known (atomic.Amo Amoswap) true (suc (suc (suc zero))) small = record { solid = refl; calm = refl; some = refl; known = refl }
 atomic_known (atomic.Amo Amoswap) true (suc (suc (suc (suc order)))) small = absurd (omega arith)
-atomic_known (atomic.Amo Amoswap) false zero small = record { solid = refl; some = refl; known = refl }
-atomic_known (atomic.Amo Amoswap) false (suc zero) small = record { solid = refl; some = refl; known = refl }
-atomic_known (atomic.Amo Amoswap) false (suc (suc zero)) small = record { solid = refl; some = refl; known = refl }
-atomic_known (atomic.Amo Amoswap) false (suc (suc (suc zero))) small = record { solid = refl; some = refl; known = refl }
+atomic_known (atomic.Amo Amoswap) false zero small = record { solid = refl; calm = refl; some = refl; known = refl }
+atomic_known (atomic.Amo Amoswap) false (suc zero) small = record { solid = refl; calm = refl; some = refl; known = refl }
+atomic_known (atomic.Amo Amoswap) false (suc (suc zero)) small = record { solid = refl; calm = refl; some = refl; known = refl }
+atomic_known (atomic.Amo Amoswap) false (suc (suc (suc zero))) small = record { solid = refl; calm = refl; some = refl; known = refl }
 atomic_known (atomic.Amo Amoswap) false (suc (suc (suc (suc order)))) small = absurd (omega arith)
-atomic_known (atomic.Amo Amoadd) true zero small = record { solid = refl; some = refl; known = refl }
-atomic_known (atomic.Amo Amoadd) true (suc zero) small = record { solid = refl; some = refl; known = refl }
-atomic_known (atomic.Amo Amoadd) true (suc (suc zero)) small = record { solid = refl; some = refl; known = refl }
-atomic_known (atomic.Amo Amoadd) true (suc (suc (suc zero))) small = record { solid = refl; some = refl; known = refl }
+atomic_known (atomic.Amo Amoadd) true zero small = record { solid = refl; calm = refl; some = refl; known = refl }
+atomic_known (atomic.Amo Amoadd) true (suc zero) small = record { solid = refl; calm = refl; some = refl; known = refl }
+atomic_known (atomic.Amo Amoadd) true (suc (suc zero)) small = record { solid = refl; calm = refl; some = refl; known = refl }
+atomic_known (atomic.Amo Amoadd) true (suc (suc (suc zero))) small = record { solid = refl; calm = refl; some = refl; known = refl }
 atomic_known (atomic.Amo Amoadd) true (suc (suc (suc (suc order)))) small = absurd (omega arith)
-atomic_known (atomic.Amo Amoadd) false zero small = record { solid = refl; some = refl; known = refl }
-atomic_known (atomic.Amo Amoadd) false (suc zero) small = record { solid = refl; some = refl; known = refl }
-atomic_known (atomic.Amo Amoadd) false (suc (suc zero)) small = record { solid = refl; some = refl; known = refl }
-atomic_known (atomic.Amo Amoadd) false (suc (suc (suc zero))) small = record { solid = refl; some = refl; known = refl }
+atomic_known (atomic.Amo Amoadd) false zero small = record { solid = refl; calm = refl; some = refl; known = refl }
+atomic_known (atomic.Amo Amoadd) false (suc zero) small = record { solid = refl; calm = refl; some = refl; known = refl }
+atomic_known (atomic.Amo Amoadd) false (suc (suc zero)) small = record { solid = refl; calm = refl; some = refl; known = refl }
+atomic_known (atomic.Amo Amoadd) false (suc (suc (suc zero))) small = record { solid = refl; calm = refl; some = refl; known = refl }
 atomic_known (atomic.Amo Amoadd) false (suc (suc (suc (suc order)))) small = absurd (omega arith)
-atomic_known (atomic.Amo Amoxor) true zero small = record { solid = refl; some = refl; known = refl }
-atomic_known (atomic.Amo Amoxor) true (suc zero) small = record { solid = refl; some = refl; known = refl }
-atomic_known (atomic.Amo Amoxor) true (suc (suc zero)) small = record { solid = refl; some = refl; known = refl }
-atomic_known (atomic.Amo Amoxor) true (suc (suc (suc zero))) small = record { solid = refl; some = refl; known = refl }
+atomic_known (atomic.Amo Amoxor) true zero small = record { solid = refl; calm = refl; some = refl; known = refl }
+atomic_known (atomic.Amo Amoxor) true (suc zero) small = record { solid = refl; calm = refl; some = refl; known = refl }
+atomic_known (atomic.Amo Amoxor) true (suc (suc zero)) small = record { solid = refl; calm = refl; some = refl; known = refl }
+atomic_known (atomic.Amo Amoxor) true (suc (suc (suc zero))) small = record { solid = refl; calm = refl; some = refl; known = refl }
 atomic_known (atomic.Amo Amoxor) true (suc (suc (suc (suc order)))) small = absurd (omega arith)
-atomic_known (atomic.Amo Amoxor) false zero small = record { solid = refl; some = refl; known = refl }
-atomic_known (atomic.Amo Amoxor) false (suc zero) small = record { solid = refl; some = refl; known = refl }
-atomic_known (atomic.Amo Amoxor) false (suc (suc zero)) small = record { solid = refl; some = refl; known = refl }
-atomic_known (atomic.Amo Amoxor) false (suc (suc (suc zero))) small = record { solid = refl; some = refl; known = refl }
+atomic_known (atomic.Amo Amoxor) false zero small = record { solid = refl; calm = refl; some = refl; known = refl }
+atomic_known (atomic.Amo Amoxor) false (suc zero) small = record { solid = refl; calm = refl; some = refl; known = refl }
+atomic_known (atomic.Amo Amoxor) false (suc (suc zero)) small = record { solid = refl; calm = refl; some = refl; known = refl }
+atomic_known (atomic.Amo Amoxor) false (suc (suc (suc zero))) small = record { solid = refl; calm = refl; some = refl; known = refl }
 atomic_known (atomic.Amo Amoxor) false (suc (suc (suc (suc order)))) small = absurd (omega arith)
-atomic_known (atomic.Amo Amoand) true zero small = record { solid = refl; some = refl; known = refl }
-atomic_known (atomic.Amo Amoand) true (suc zero) small = record { solid = refl; some = refl; known = refl }
-atomic_known (atomic.Amo Amoand) true (suc (suc zero)) small = record { solid = refl; some = refl; known = refl }
-atomic_known (atomic.Amo Amoand) true (suc (suc (suc zero))) small = record { solid = refl; some = refl; known = refl }
+atomic_known (atomic.Amo Amoand) true zero small = record { solid = refl; calm = refl; some = refl; known = refl }
+atomic_known (atomic.Amo Amoand) true (suc zero) small = record { solid = refl; calm = refl; some = refl; known = refl }
+atomic_known (atomic.Amo Amoand) true (suc (suc zero)) small = record { solid = refl; calm = refl; some = refl; known = refl }
+atomic_known (atomic.Amo Amoand) true (suc (suc (suc zero))) small = record { solid = refl; calm = refl; some = refl; known = refl }
 atomic_known (atomic.Amo Amoand) true (suc (suc (suc (suc order)))) small = absurd (omega arith)
-atomic_known (atomic.Amo Amoand) false zero small = record { solid = refl; some = refl; known = refl }
-atomic_known (atomic.Amo Amoand) false (suc zero) small = record { solid = refl; some = refl; known = refl }
-atomic_known (atomic.Amo Amoand) false (suc (suc zero)) small = record { solid = refl; some = refl; known = refl }
-atomic_known (atomic.Amo Amoand) false (suc (suc (suc zero))) small = record { solid = refl; some = refl; known = refl }
+atomic_known (atomic.Amo Amoand) false zero small = record { solid = refl; calm = refl; some = refl; known = refl }
+atomic_known (atomic.Amo Amoand) false (suc zero) small = record { solid = refl; calm = refl; some = refl; known = refl }
+atomic_known (atomic.Amo Amoand) false (suc (suc zero)) small = record { solid = refl; calm = refl; some = refl; known = refl }
+atomic_known (atomic.Amo Amoand) false (suc (suc (suc zero))) small = record { solid = refl; calm = refl; some = refl; known = refl }
 atomic_known (atomic.Amo Amoand) false (suc (suc (suc (suc order)))) small = absurd (omega arith)
-atomic_known (atomic.Amo Amoor) true zero small = record { solid = refl; some = refl; known = refl }
-atomic_known (atomic.Amo Amoor) true (suc zero) small = record { solid = refl; some = refl; known = refl }
-atomic_known (atomic.Amo Amoor) true (suc (suc zero)) small = record { solid = refl; some = refl; known = refl }
-atomic_known (atomic.Amo Amoor) true (suc (suc (suc zero))) small = record { solid = refl; some = refl; known = refl }
+atomic_known (atomic.Amo Amoor) true zero small = record { solid = refl; calm = refl; some = refl; known = refl }
+atomic_known (atomic.Amo Amoor) true (suc zero) small = record { solid = refl; calm = refl; some = refl; known = refl }
+atomic_known (atomic.Amo Amoor) true (suc (suc zero)) small = record { solid = refl; calm = refl; some = refl; known = refl }
+atomic_known (atomic.Amo Amoor) true (suc (suc (suc zero))) small = record { solid = refl; calm = refl; some = refl; known = refl }
 atomic_known (atomic.Amo Amoor) true (suc (suc (suc (suc order)))) small = absurd (omega arith)
-atomic_known (atomic.Amo Amoor) false zero small = record { solid = refl; some = refl; known = refl }
-atomic_known (atomic.Amo Amoor) false (suc zero) small = record { solid = refl; some = refl; known = refl }
-atomic_known (atomic.Amo Amoor) false (suc (suc zero)) small = record { solid = refl; some = refl; known = refl }
-atomic_known (atomic.Amo Amoor) false (suc (suc (suc zero))) small = record { solid = refl; some = refl; known = refl }
+atomic_known (atomic.Amo Amoor) false zero small = record { solid = refl; calm = refl; some = refl; known = refl }
+atomic_known (atomic.Amo Amoor) false (suc zero) small = record { solid = refl; calm = refl; some = refl; known = refl }
+atomic_known (atomic.Amo Amoor) false (suc (suc zero)) small = record { solid = refl; calm = refl; some = refl; known = refl }
+atomic_known (atomic.Amo Amoor) false (suc (suc (suc zero))) small = record { solid = refl; calm = refl; some = refl; known = refl }
 atomic_known (atomic.Amo Amoor) false (suc (suc (suc (suc order)))) small = absurd (omega arith)
-atomic_known (atomic.Amo Amomin) true zero small = record { solid = refl; some = refl; known = refl }
-atomic_known (atomic.Amo Amomin) true (suc zero) small = record { solid = refl; some = refl; known = refl }
-atomic_known (atomic.Amo Amomin) true (suc (suc zero)) small = record { solid = refl; some = refl; known = refl }
-atomic_known (atomic.Amo Amomin) true (suc (suc (suc zero))) small = record { solid = refl; some = refl; known = refl }
+atomic_known (atomic.Amo Amomin) true zero small = record { solid = refl; calm = refl; some = refl; known = refl }
+atomic_known (atomic.Amo Amomin) true (suc zero) small = record { solid = refl; calm = refl; some = refl; known = refl }
+atomic_known (atomic.Amo Amomin) true (suc (suc zero)) small = record { solid = refl; calm = refl; some = refl; known = refl }
+atomic_known (atomic.Amo Amomin) true (suc (suc (suc zero))) small = record { solid = refl; calm = refl; some = refl; known = refl }
 atomic_known (atomic.Amo Amomin) true (suc (suc (suc (suc order)))) small = absurd (omega arith)
-atomic_known (atomic.Amo Amomin) false zero small = record { solid = refl; some = refl; known = refl }
-atomic_known (atomic.Amo Amomin) false (suc zero) small = record { solid = refl; some = refl; known = refl }
-atomic_known (atomic.Amo Amomin) false (suc (suc zero)) small = record { solid = refl; some = refl; known = refl }
-atomic_known (atomic.Amo Amomin) false (suc (suc (suc zero))) small = record { solid = refl; some = refl; known = refl }
+atomic_known (atomic.Amo Amomin) false zero small = record { solid = refl; calm = refl; some = refl; known = refl }
+atomic_known (atomic.Amo Amomin) false (suc zero) small = record { solid = refl; calm = refl; some = refl; known = refl }
+atomic_known (atomic.Amo Amomin) false (suc (suc zero)) small = record { solid = refl; calm = refl; some = refl; known = refl }
+atomic_known (atomic.Amo Amomin) false (suc (suc (suc zero))) small = record { solid = refl; calm = refl; some = refl; known = refl }
 atomic_known (atomic.Amo Amomin) false (suc (suc (suc (suc order)))) small = absurd (omega arith)
-atomic_known (atomic.Amo Amomax) true zero small = record { solid = refl; some = refl; known = refl }
-atomic_known (atomic.Amo Amomax) true (suc zero) small = record { solid = refl; some = refl; known = refl }
-atomic_known (atomic.Amo Amomax) true (suc (suc zero)) small = record { solid = refl; some = refl; known = refl }
-atomic_known (atomic.Amo Amomax) true (suc (suc (suc zero))) small = record { solid = refl; some = refl; known = refl }
+atomic_known (atomic.Amo Amomax) true zero small = record { solid = refl; calm = refl; some = refl; known = refl }
+atomic_known (atomic.Amo Amomax) true (suc zero) small = record { solid = refl; calm = refl; some = refl; known = refl }
+atomic_known (atomic.Amo Amomax) true (suc (suc zero)) small = record { solid = refl; calm = refl; some = refl; known = refl }
+atomic_known (atomic.Amo Amomax) true (suc (suc (suc zero))) small = record { solid = refl; calm = refl; some = refl; known = refl }
 atomic_known (atomic.Amo Amomax) true (suc (suc (suc (suc order)))) small = absurd (omega arith)
-atomic_known (atomic.Amo Amomax) false zero small = record { solid = refl; some = refl; known = refl }
-atomic_known (atomic.Amo Amomax) false (suc zero) small = record { solid = refl; some = refl; known = refl }
-atomic_known (atomic.Amo Amomax) false (suc (suc zero)) small = record { solid = refl; some = refl; known = refl }
-atomic_known (atomic.Amo Amomax) false (suc (suc (suc zero))) small = record { solid = refl; some = refl; known = refl }
+atomic_known (atomic.Amo Amomax) false zero small = record { solid = refl; calm = refl; some = refl; known = refl }
+atomic_known (atomic.Amo Amomax) false (suc zero) small = record { solid = refl; calm = refl; some = refl; known = refl }
+atomic_known (atomic.Amo Amomax) false (suc (suc zero)) small = record { solid = refl; calm = refl; some = refl; known = refl }
+atomic_known (atomic.Amo Amomax) false (suc (suc (suc zero))) small = record { solid = refl; calm = refl; some = refl; known = refl }
 atomic_known (atomic.Amo Amomax) false (suc (suc (suc (suc order)))) small = absurd (omega arith)
-atomic_known (atomic.Amo Amominu) true zero small = record { solid = refl; some = refl; known = refl }
-atomic_known (atomic.Amo Amominu) true (suc zero) small = record { solid = refl; some = refl; known = refl }
-atomic_known (atomic.Amo Amominu) true (suc (suc zero)) small = record { solid = refl; some = refl; known = refl }
-atomic_known (atomic.Amo Amominu) true (suc (suc (suc zero))) small = record { solid = refl; some = refl; known = refl }
+atomic_known (atomic.Amo Amominu) true zero small = record { solid = refl; calm = refl; some = refl; known = refl }
+atomic_known (atomic.Amo Amominu) true (suc zero) small = record { solid = refl; calm = refl; some = refl; known = refl }
+atomic_known (atomic.Amo Amominu) true (suc (suc zero)) small = record { solid = refl; calm = refl; some = refl; known = refl }
+atomic_known (atomic.Amo Amominu) true (suc (suc (suc zero))) small = record { solid = refl; calm = refl; some = refl; known = refl }
 atomic_known (atomic.Amo Amominu) true (suc (suc (suc (suc order)))) small = absurd (omega arith)
-atomic_known (atomic.Amo Amominu) false zero small = record { solid = refl; some = refl; known = refl }
-atomic_known (atomic.Amo Amominu) false (suc zero) small = record { solid = refl; some = refl; known = refl }
-atomic_known (atomic.Amo Amominu) false (suc (suc zero)) small = record { solid = refl; some = refl; known = refl }
-atomic_known (atomic.Amo Amominu) false (suc (suc (suc zero))) small = record { solid = refl; some = refl; known = refl }
+atomic_known (atomic.Amo Amominu) false zero small = record { solid = refl; calm = refl; some = refl; known = refl }
+atomic_known (atomic.Amo Amominu) false (suc zero) small = record { solid = refl; calm = refl; some = refl; known = refl }
+atomic_known (atomic.Amo Amominu) false (suc (suc zero)) small = record { solid = refl; calm = refl; some = refl; known = refl }
+atomic_known (atomic.Amo Amominu) false (suc (suc (suc zero))) small = record { solid = refl; calm = refl; some = refl; known = refl }
 atomic_known (atomic.Amo Amominu) false (suc (suc (suc (suc order)))) small = absurd (omega arith)
-atomic_known (atomic.Amo Amomaxu) true zero small = record { solid = refl; some = refl; known = refl }
-atomic_known (atomic.Amo Amomaxu) true (suc zero) small = record { solid = refl; some = refl; known = refl }
-atomic_known (atomic.Amo Amomaxu) true (suc (suc zero)) small = record { solid = refl; some = refl; known = refl }
-atomic_known (atomic.Amo Amomaxu) true (suc (suc (suc zero))) small = record { solid = refl; some = refl; known = refl }
+atomic_known (atomic.Amo Amomaxu) true zero small = record { solid = refl; calm = refl; some = refl; known = refl }
+atomic_known (atomic.Amo Amomaxu) true (suc zero) small = record { solid = refl; calm = refl; some = refl; known = refl }
+atomic_known (atomic.Amo Amomaxu) true (suc (suc zero)) small = record { solid = refl; calm = refl; some = refl; known = refl }
+atomic_known (atomic.Amo Amomaxu) true (suc (suc (suc zero))) small = record { solid = refl; calm = refl; some = refl; known = refl }
 atomic_known (atomic.Amo Amomaxu) true (suc (suc (suc (suc order)))) small = absurd (omega arith)
-atomic_known (atomic.Amo Amomaxu) false zero small = record { solid = refl; some = refl; known = refl }
-atomic_known (atomic.Amo Amomaxu) false (suc zero) small = record { solid = refl; some = refl; known = refl }
-atomic_known (atomic.Amo Amomaxu) false (suc (suc zero)) small = record { solid = refl; some = refl; known = refl }
-atomic_known (atomic.Amo Amomaxu) false (suc (suc (suc zero))) small = record { solid = refl; some = refl; known = refl }
+atomic_known (atomic.Amo Amomaxu) false zero small = record { solid = refl; calm = refl; some = refl; known = refl }
+atomic_known (atomic.Amo Amomaxu) false (suc zero) small = record { solid = refl; calm = refl; some = refl; known = refl }
+atomic_known (atomic.Amo Amomaxu) false (suc (suc zero)) small = record { solid = refl; calm = refl; some = refl; known = refl }
+atomic_known (atomic.Amo Amomaxu) false (suc (suc (suc zero))) small = record { solid = refl; calm = refl; some = refl; known = refl }
 atomic_known (atomic.Amo Amomaxu) false (suc (suc (suc (suc order)))) small = absurd (omega arith)
+
+-- the text of an atomic operation is its name, a blank and more
+pub atomic_spelled : (op : Atomic) (wide : Bool) (order : ℕ) (rest : List ℕ) → atomic_text op ++ (width_suffix wide ++ (order_suffix order ++ rest)) ≡ atomic_word op wide order ++ rest
+atomic_spelled op wide order rest =
+    sym (append_assoc (atomic_text op ++ width_suffix wide) (order_suffix order) rest ∙ append_assoc (atomic_text op) (width_suffix wide) (order_suffix order ++ rest))
 
 atomic_statement : (op : Atomic) (wide : Bool) (order : ℕ) (operands : List (List ℕ)) → order < 4
     → body_meaning (atomic_text op ++ (width_suffix wide ++ statement (order_suffix order) operands)) ≡ kind_meaning (kind.Atomic op wide order) (32 ∷ joined operands)
 atomic_statement op wide order operands small =
-    ap body_meaning (sym (append_assoc (atomic_text op ++ width_suffix wide) (order_suffix order) (32 ∷ joined operands) ∙ append_assoc (atomic_text op) (width_suffix wide) (order_suffix order ++ 32 ∷ joined operands)))
+    ap body_meaning (atomic_spelled op wide order (32 ∷ joined operands))
     ∙ known_text (atomic_word op wide order) (joined operands) (kind.Atomic op wide order) (atomic_known op wide order small)
 
-short_size : (z : ℤ) (half step : ℕ) → half < 2 ^ 62 → IsImmediate half step z → size_below (2 ^ 63) z
+pub short_size : (z : ℤ) (half step : ℕ) → half < 2 ^ 62 → IsImmediate half step z → size_below (2 ^ 63) z
 short_size (pos n) half step small h = omega (arith, ints, h.most)
 short_size (negsuc n) half step small h = omega (arith, ints, h.least)
 
@@ -527,7 +532,7 @@ amount_size : (z : ℤ) (limit : ℕ) → limit < 2 ^ 62 → IsAmount limit z �
 amount_size (pos n) limit small h = omega (arith, ints, h.most)
 amount_size (negsuc n) limit small h = absurd (omega (arith, ints, h.least))
 
-operand_size : (op : ImmOp) (z : ℤ) → IsOperand op z → size_below (2 ^ 63) z
+pub operand_size : (op : ImmOp) (z : ℤ) → IsOperand op z → size_below (2 ^ 63) z
 operand_size Addi z h = short_size z (2 ^ 11) 1 (omega arith) h
 operand_size Slti z h = short_size z (2 ^ 11) 1 (omega arith) h
 operand_size Sltiu z h = short_size z (2 ^ 11) 1 (omega arith) h
@@ -643,29 +648,29 @@ auipc_text rd imm a c =
     let fits : size_below (2 ^ 63) (pos size) = omega (arith, is.small) in
     rw (first rd (32 ∷ decimal size) a, number_is (pos size) fits, upper_is imm size is)
 
-lui_known : IsKnown (codes "lui") kind.Lui
+pub lui_known : IsKnown (codes "lui") kind.Lui
 unfolding kind_named
-lui_known = record { solid = refl; some = refl; known = refl }
+lui_known = record { solid = refl; calm = refl; some = refl; known = refl }
 
-auipc_known : IsKnown (codes "auipc") kind.Auipc
+pub auipc_known : IsKnown (codes "auipc") kind.Auipc
 unfolding kind_named
-auipc_known = record { solid = refl; some = refl; known = refl }
+auipc_known = record { solid = refl; calm = refl; some = refl; known = refl }
 
-jal_known : IsKnown (codes "jal") kind.Jal
+pub jal_known : IsKnown (codes "jal") kind.Jal
 unfolding kind_named
-jal_known = record { solid = refl; some = refl; known = refl }
+jal_known = record { solid = refl; calm = refl; some = refl; known = refl }
 
-jalr_known : IsKnown (codes "jalr") kind.Jalr
+pub jalr_known : IsKnown (codes "jalr") kind.Jalr
 unfolding kind_named
-jalr_known = record { solid = refl; some = refl; known = refl }
+jalr_known = record { solid = refl; calm = refl; some = refl; known = refl }
 
-fence_known : IsKnown (codes "fence") (kind.Fence false)
+pub fence_known : IsKnown (codes "fence") (kind.Fence false)
 unfolding kind_named
-fence_known = record { solid = refl; some = refl; known = refl }
+fence_known = record { solid = refl; calm = refl; some = refl; known = refl }
 
-code_fence_known : IsKnown (codes "fence.i") (kind.Fence true)
+pub code_fence_known : IsKnown (codes "fence.i") (kind.Fence true)
 unfolding kind_named
-code_fence_known = record { solid = refl; some = refl; known = refl }
+code_fence_known = record { solid = refl; calm = refl; some = refl; known = refl }
 
 closed_ecall : body_meaning (codes "ecall") ≡ Ok (One Ecall)
 unfolding body_meaning kind_meaning kind_named alone first_word behind_word without_front before_blank from_blank

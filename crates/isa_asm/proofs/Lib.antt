@@ -5,3 +5,5 @@ pub mod PlaceFacts
 pub mod EmitFacts
 pub mod StepFacts
 pub mod LawFacts
+pub mod SizeFacts
+pub mod PrintedFacts

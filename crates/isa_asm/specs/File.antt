@@ -1,6 +1,6 @@
 -- The file of a source.
 -- Source: the System V ABI, "ELF Header" and "Program Header", and the ABI of RISC-V for the machine and the flags.
-use Rattle.std.specs.Prelude.{◌≡◌, ◌≢◌, ℕ, ◌+◌, ◌-◌, ◌==◌, true, false, if◌then◌else◌, List, [], ◌∷◌, ◌++◌, length, codes, replicate, unwrap_or, Option, Some, None}
+use Rattle.std.specs.Prelude.{◌≡◌, ◌≢◌, ◌<◌, ◌^◌, ℕ, ◌+◌, ◌-◌, ◌==◌, true, false, if◌then◌else◌, List, [], ◌∷◌, ◌++◌, length, codes, replicate, unwrap_or, Option, Some, None}
 use Rattle.std.specs.Int.{w16, w32, w64, to_le_bytes}
 use Rattle.isa_decode.specs.Listing.{IsWord}
 use Rattle.isa_asm.specs.declared.cause.AsmCause.TheVariants as cause
@@ -11,7 +11,7 @@ use Rattle.isa_asm.specs.Source.{Piece, pieces}
 -- an instruction is its word as four bytes, the lowest first
 abbrev pub Spells : List Item → List ℕ → Type 0
 Spells [] bytes = bytes ≡ []
-Spells (Instruction instr ∷ items) bytes = (word : ℕ) × (rest : List ℕ) × IsWord word instr × (bytes ≡ to_le_bytes w32 word ++ rest) × Spells items rest
+Spells (Instruction instr ∷ items) bytes = (word : ℕ) × (rest : List ℕ) × (word < 2 ^ 32) × IsWord word instr × (bytes ≡ to_le_bytes w32 word ++ rest) × Spells items rest
 Spells (Byte byte ∷ items) bytes = (rest : List ℕ) × (bytes ≡ byte ∷ rest) × Spells items rest
 
 -- 16 bytes of identification: the magic number, 64 bits, little-endian, version 1, and zeros

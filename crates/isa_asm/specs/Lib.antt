@@ -10,4 +10,5 @@ pub mod Statement
 pub mod Source
 pub mod Ranges
 pub mod Places
+pub mod Sizes
 pub mod File

@@ -18,9 +18,9 @@
 //!
 //! # What the layer above knows
 //!
-//! `assemble` gives the file of the source (`IsAssembled`), or its one fault (`IsFaultOf`); `laws` says that the text of an
-//! instruction in range means that instruction. Want of memory is the only free
-//! answer.
+//! `assemble` gives the file of the source (`IsAssembled`), or its one fault (`IsFaultOf`); want of memory is the only free
+//! answer. By `laws` the text of a decoded instruction is a source, whose file has the word as its text and no data; a source
+//! has one file at most, and its text and data have as many bytes as their statements (`IsSized`).
 //!
 //! # Sources
 //!
@@ -31,6 +31,7 @@
 
 mod assembling;
 mod cause;
+mod definitions;
 mod directives;
 mod emit;
 mod file;
@@ -43,7 +44,6 @@ mod literal;
 mod meaning;
 mod numbers;
 mod operands;
-mod printed;
 mod register;
 mod resolve;
 mod source;
@@ -51,7 +51,7 @@ mod table;
 
 pub use assembling::assemble;
 pub use cause::{AsmCause, AsmFault};
-pub use printed::laws;
+pub use definitions::laws;
 
 #[cfg(test)]
 mod tests;

@@ -1,4 +1,4 @@
-use crate::{AsmFault, assemble};
+use crate::{AsmCause, AsmFault, assemble};
 use std::alloc::Global;
 use std::test::Fail;
 
@@ -8,6 +8,14 @@ pub fn answer(alloc: Global, source: &[u8]) -> Result<usize, AsmFault> {
         Ok(file) => Ok(file.len()),
         Err(fault) => Err(fault),
     }
+}
+
+/// A number or an offset of a line isn't one that its field holds.
+pub fn out_of_range(line: u32) -> Result<usize, AsmFault> {
+    Err(AsmFault {
+        line,
+        cause: AsmCause::Range,
+    })
 }
 
 /// What stands from 4096 on.
