@@ -1,5 +1,5 @@
 -- What the code's state stands for.
-use Rattle.std.specs.Prelude.{◌≡◌, ℕ, List, [], map, Option, None, Some}
+use Rattle.std.specs.Prelude.{◌≡◌, ℕ, zero, suc, List, [], map, Option, None, Some}
 use Rattle.guest_core.specs.declared.ends.End.{End}
 use Rattle.guest_core.specs.declared.state.State.{State}
 use Rattle.guest_core.specs.declared.thread.Thread as code
@@ -84,3 +84,9 @@ pub record MadePlain (old : Host) (was : code.Thread) (next : Host) (new : code.
   pub new_is : new ≡ record was { regs = regs }
   pub shared_is : shared_of next ≡ record (later (shared_of old)) { memory = memory; held = held }
   pub pending : next.pending ≡ old.pending
+
+-- so many plain instructions were made, one behind another
+abbrev pub PlainRun : ℕ → Host → code.Thread → Host → code.Thread → Type 0
+PlainRun zero old was next new = (next ≡ old) × (new ≡ was)
+PlainRun (suc count) old was next new =
+    (middle : Host) × (between : code.Thread) × PlainRun count old was middle between × MadePlain middle between next new

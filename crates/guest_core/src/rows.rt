@@ -1,13 +1,13 @@
 //! The rows of a thread's step, each a function of what the system has and of that thread.
 
-ghost use Rattle.std.specs.Prelude.{◌≡◌, ◌⊎◌, ◌+◌, ◌<◌, ◌^◌, [], true, false, None, Some, IfOk, IfSome, OnOk, OnErr, IsOk};
+ghost use Rattle.std.specs.Prelude.{◌≡◌, ◌⊎◌, ◌+◌, ◌<◌, ◌≤◌, ◌^◌, [], true, false, None, Some, IfOk, IfSome, OnOk, OnErr, IsOk};
 ghost use Rattle.std.specs.List.{All};
 ghost use Rattle.host_calls.specs.Host.{shared_of};
 ghost use Rattle.host_calls.specs.Marks.{first_new, noted_of, OthersSettled};
 ghost use Rattle.host_calls.specs.Queue.{due, first_of};
 ghost use Rattle.guest_core.specs.Rows.{noted, taken, flag_cleared, executed, checked, entered, returned, instruction_of, IsSteady};
 ghost use Rattle.guest_core.specs.Ahead.{IsReady};
-ghost use Rattle.guest_core.specs.State.{context, goes_on, row_after, settled_after, AllSettled, MadePlain, NotesDue, TakesDue};
+ghost use Rattle.guest_core.specs.State.{context, goes_on, row_after, settled_after, AllSettled, MadePlain, PlainRun, NotesDue, TakesDue};
 ghost use Rattle.isa_step.specs.Instruction.{IsFaultless, IsPlain};
 ghost use Rattle.guest_pages.specs.Apart.{IsApart, KeepsCode};
 ghost use Rattle.isa_step.specs.Known.{IsKnown};
@@ -161,6 +161,26 @@ impl Thread {
         }
         host.tick();
         true
+    }
+
+    /// Makes instructions, at most so many, up to the first that asks for a call or faults, and tells how many it made.
+    pub fn go_ahead(&mut self, host: &mut Host, decoder: &mut Decoder, limit: u32) -> u32
+        requires apart { IsApart host.old.pages }
+        requires known { All (IsKnown host.old.pages) decoder.old }
+        ensures most { result ≤ limit }
+        ensures ran { PlainRun result host.old self.old host.new self.new }
+        ensures stops { result < limit → IsPlain (instruction_of (context host.new self.new)) → ⊥ }
+        ensures outputs { host.new.outputs ≡ host.old.outputs }
+        ensures code { KeepsCode host.old.pages host.new.pages }
+        ensures apart { IsApart host.new.pages }
+        ensures known { All (IsKnown host.new.pages) decoder.new }
+    {
+        for made in 0..limit {
+            if !self.go_on(host, decoder) {
+                return made;
+            }
+        }
+        limit
     }
 
     /// The host is entered.

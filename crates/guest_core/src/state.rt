@@ -100,11 +100,6 @@ impl State {
         if !self.threads[place].is_ready(&self.host) {
             return 0;
         }
-        for made in 0..limit {
-            if !self.threads[place].go_on(&mut self.host, decoder) {
-                return made;
-            }
-        }
-        limit
+        self.threads[place].go_ahead(&mut self.host, decoder, limit)
     }
 }
