@@ -131,7 +131,7 @@ new_whole nodes same = subst (λ (n : List (ℕ × Node)). IsWhole n 2 1 0) (sym
 
 -- ---- an entry is taken away
 
-take_from : (nodes : List (ℕ × Node)) (next count bytes at inode : ℕ) (name : List ℕ) → IsWhole nodes next count bytes → IsEntry nodes at name inode → IsTakeable nodes name inode
+pub take_from : (nodes : List (ℕ × Node)) (next count bytes at inode : ℕ) (name : List ℕ) → IsWhole nodes next count bytes → IsEntry nodes at name inode → IsTakeable nodes name inode
     → (1 ≤ count) × (length (file_bytes nodes inode) ≤ bytes) × IsWhole (with_unlinked at name inode nodes) next (count - 1) (bytes - length (file_bytes nodes inode))
 take_from nodes next count bytes at inode name is e t =
     let so = left nodes next count bytes at inode name e.node t.node e.directory is e.found e.linked e.body e.entry t.found t.empty in

@@ -1,6 +1,8 @@
 pub mod ByteFacts
+pub mod EntryFacts
 pub mod FileFacts
 pub mod CallFacts
+pub mod CallerFacts
 pub mod FillFacts
 pub mod GoneFacts
 pub mod LookFacts
@@ -11,7 +13,10 @@ pub mod NodeFacts
 pub mod PathFacts
 pub mod PathLaws
 pub mod PutFacts
+pub mod SoundFacts
+pub mod SpotFacts
 pub mod StayFacts
 pub mod StepFacts
+pub mod TakenFacts
 pub mod TreeFacts
 pub mod WalkFacts

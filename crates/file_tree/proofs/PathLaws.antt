@@ -54,14 +54,14 @@ through old new kept at (n ∷ m ∷ ns) spot ok some =
 dot_found : (next : ℕ) (node : Node) (d : Directory) → node.body ≡ Names d → step_at next (Some node) dot ≡ Ok next
 dot_found next node d same = ap (λ (b : Body). step_in next node.linked b dot) same
 
-long_same : (long : Bool) (r : Result ℕ Errno) → long ≡ false → (if long then Err ENAMETOOLONG else r) ≡ r
+pub long_same : (long : Bool) (r : Result ℕ Errno) → long ≡ false → (if long then Err ENAMETOOLONG else r) ≡ r
 long_same true r short = absurd (let f : ⊥ = cc in f)
 long_same false r short = refl
 
-within_from : (n : ℕ) → n ≤ 255 → nat_lt 255 n ≡ false
+pub within_from : (n : ℕ) → n ≤ 255 → nat_lt 255 n ≡ false
 within_from n low = grind arith
 
-not_itself : (name : List ℕ) → is_itself name ≡ false → (0 < length name) × (is_dot name ≡ false)
+pub not_itself : (name : List ℕ) → is_itself name ≡ false → (0 < length name) × (is_dot name ≡ false)
 not_itself [] same = absurd (let f : ⊥ = cc in f)
 not_itself (b ∷ name) same = (omega arith, second (length (b ∷ name) == 0) (is_dot (b ∷ name)) same)
   where
@@ -69,7 +69,7 @@ not_itself (b ∷ name) same = (omega arith, second (length (b ∷ name) == 0) (
     second true y none = absurd (let f : ⊥ = cc in f)
     second false y none = none
 
-looked_named : (at parent n : ℕ) (linked a b : Bool) (r : Result ℕ Errno) → linked ≡ true → a ≡ false → b ≡ false → (if a then Ok at else if not linked then Err ENOENT else if b then Ok parent else r) ≡ r
+pub looked_named : (at parent n : ℕ) (linked a b : Bool) (r : Result ℕ Errno) → linked ≡ true → a ≡ false → b ≡ false → (if a then Ok at else if not linked then Err ENOENT else if b then Ok parent else r) ≡ r
 looked_named at parent n linked true b r is none other = absurd (let f : ⊥ = cc in f)
 looked_named at parent n linked false true r is none other = absurd (let f : ⊥ = cc in f)
 looked_named at parent n true false false r is none other = refl

@@ -34,7 +34,7 @@ pub has_kind : (nodes : List (ℕ × Node)) (spot : Spot) (kind : Kind) → kind
 has_kind nodes spot File = refl
 has_kind nodes spot Dir = refl
 
-put_from : (nodes : List (ℕ × Node)) (next count bytes at : ℕ) (name : List ℕ) (kind : Kind) → IsWhole nodes next count bytes → IsMakeable nodes at name → has_slash name ≡ false
+pub put_from : (nodes : List (ℕ × Node)) (next count bytes at : ℕ) (name : List ℕ) (kind : Kind) → IsWhole nodes next count bytes → IsMakeable nodes at name → has_slash name ≡ false
     → IsWhole (with_made at name next (new_node kind (record { at = at; name = name }) nodes) nodes) (next + 1) (count + 1) bytes
 put_from nodes next count bytes at name kind is can plain =
     let spot : Spot = record { at = at; name = name } in

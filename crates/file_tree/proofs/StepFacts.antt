@@ -21,7 +21,7 @@ place_there None some = absurd (let f : ⊥ = cc in f)
 place_there (Some node) some = refl
 
 -- where a linked directory's parent stands
-parent_there : (tree : ℕ → Option Place) → IsTree tree → (at : ℕ) (d : Directory) → tree at ≡ Some (Dir d) → IsSome (tree d.parent)
+pub parent_there : (tree : ℕ → Option Place) → IsTree tree → (at : ℕ) (d : Directory) → tree at ≡ Some (Dir d) → IsSome (tree d.parent)
 parent_there tree is at d here =
     elim (cases_eq at 1) [
       | inl same ↦

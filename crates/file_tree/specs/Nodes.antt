@@ -38,10 +38,6 @@ new_file = record { holds = 0; linked = true; body = Bytes [] }
 abbrev pub new_tree : Tree
 new_tree = record { nodes = (1, new_directory 1 0) ∷ []; next = 2 }
 
--- an inode is in the tree: it is linked, or was unlinked and is held
-abbrev pub Has : Tree → ℕ → Type 0
-Has tree inode = IsSome (node_in tree.nodes inode)
-
 abbrev pub kind_of : Body → Kind
 kind_of (Bytes bytes) = kinds.File
 kind_of (Names directory) = kinds.Dir
@@ -53,6 +49,10 @@ kind_by (Some node) = Some (kind_of node.body)
 -- what an inode is, if it is in the tree
 unfoldable pub kind_in : Tree → ℕ → Option Kind
 kind_in tree inode = kind_by (node_in tree.nodes inode)
+
+-- an inode is in the tree: it is linked, or was unlinked and is held
+abbrev pub Has : Tree → ℕ → Type 0
+Has tree inode = IsSome (kind_in tree inode)
 
 abbrev pub bytes_of : Body → List ℕ
 bytes_of (Bytes bytes) = bytes
@@ -89,6 +89,10 @@ path_by (Some node) = path_of node.body
 abbrev pub linked_by : Option Node → Bool
 linked_by None = false
 linked_by (Some node) = node.linked
+
+-- whether a name leads to an inode, or it is the root
+abbrev pub linked_in : Tree → ℕ → Bool
+linked_in tree inode = linked_by (node_in tree.nodes inode)
 
 abbrev pub holds_by : Option Node → ℕ
 holds_by None = 0

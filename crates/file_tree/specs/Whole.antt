@@ -13,7 +13,8 @@ use Rattle.file_tree.specs.declared.node.Body.TheVariants.{Bytes, Names}
 use Rattle.file_tree.specs.Entries.{Entries, entry_named, AreRising}
 use Rattle.file_tree.specs.Paths.{is_dots}
 use Rattle.file_tree.specs.Making.{is_own, is_itself, path_below}
-use Rattle.file_tree.specs.Nodes.{node_in, names_of, file_bytes, tree_bytes, tree_count}
+use Rattle.file_tree.specs.declared.kind.Kind.TheVariants as kinds
+use Rattle.file_tree.specs.Nodes.{Tree, node_in, kind_in, linked_in, names_of, names_in, file_bytes, tree_bytes, tree_count}
 
 -- what a linked inode is
 pub data Place : Type 0 where
@@ -103,3 +104,23 @@ pub record IsWhole (nodes : List (ℕ × Node)) (next count bytes : ℕ) : Type 
   pub few : count ≤ 4097
   pub summed : bytes ≡ tree_bytes nodes
   pub within : bytes ≤ 268435456
+
+-- a name leads to an inode
+pub record IsLed (tree : Tree) (directory : ℕ) (name : List ℕ) (inode : ℕ) : Type 0 where
+  pub named : IsName directory name
+  pub from : linked_in tree directory ≡ true
+  pub to : linked_in tree inode ≡ true
+
+-- what callers know of every tree
+pub record IsSound (tree : Tree) : Type 0 where
+  pub root : kind_in tree 1 ≡ Some kinds.Dir
+  pub linked : IsTree (places tree.nodes)
+  -- the names of a directory rise by their bytes, so that each stands there once
+  pub rising : (directory : ℕ) → AreRising (names_in tree.nodes directory)
+  pub leads : (directory : ℕ) (name : List ℕ) (inode : ℕ) → entry_named name (names_in tree.nodes directory) ≡ Some inode → IsLed tree directory name inode
+  pub kept : (inode : ℕ) (node : Node) → node_in tree.nodes inode ≡ Some node → node.linked ≡ false → IsKept node
+  pub unused : (inode : ℕ) → tree.next ≤ inode → kind_in tree inode ≡ None
+  pub sorted : IsStrictlySortedBy nat_cmp (keys_of tree.nodes)
+  pub small : (file : ℕ) → length (file_bytes tree.nodes file) ≤ 16777216
+  pub few : tree_count tree.nodes ≤ 4097
+  pub within : tree_bytes tree.nodes ≤ 268435456

@@ -4,9 +4,10 @@
 //! The model of a `Tree` is its entries by inode (each with its kind, its bytes or its names with their inodes, and how
 //! often it is held) and the next inode. `made`, `unlinked`, `written` and `truncated` of `specs/` say what each call leaves,
 //! or with which error it is refused, and `walked` where a path leads; after a refusal or want of memory the tree is as
-//! before. Of every tree `specs/Whole.antt` is kept: inode 1 is the root, the linked entries are one tree, what was unlinked
-//! is held and empty, and the limits hold. A walk costs its parts times the logarithm of a directory's names, a read or a
-//! write its bytes.
+//! before. `IsMade`, `IsTaken`, `IsFilled`, `IsHeld` and `IsReleased` say what else stays: kinds, holds, bytes, names, and
+//! what paths lead to. Of every tree `IsSound` holds: inode 1 is the root, the linked entries are one tree, a directory's
+//! names rise by their bytes, what was unlinked is held and empty, and the limits hold; `root` tells it at any time. A walk
+//! costs its parts times the logarithm of a directory's names, a read or a write its bytes.
 //!
 //! The model of a `Text` is the list of its bytes, which is UTF-8. The layer above knows no more of it. Making one of a
 //! `&str` is the only call that takes memory, and its cost is in the number of bytes; the others take constant time.

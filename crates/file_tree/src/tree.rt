@@ -1,5 +1,6 @@
-ghost use Rattle.std.specs.Prelude.{false, ◌≡◌, ◌≢◌, ℕ, ◌+◌, ◌-◌, ◌^◌, ◌<◌, ◌≤◌, ◌++◌, min, length, drop, Ok, Err, Some, IfOk, IfErr, IfSome, OnOk, OnErr, MatchResult};
+ghost use Rattle.std.specs.Prelude.{true, false, ◌≡◌, ◌≢◌, ℕ, ◌+◌, ◌-◌, ◌^◌, ◌<◌, ◌≤◌, ◌++◌, min, length, drop, Ok, Err, Some, IfOk, IfErr, IfSome, List, OnOk, OnErr, MatchResult};
 ghost use Rattle.std.specs.Map.{keys_of};
+ghost use Rattle.file_tree.specs.Entries.{entry_named, AreRising};
 ghost use Rattle.file_tree.specs.Making.{slash_refused};
 ghost use Rattle.file_tree.specs.Files.{fitting, size_written};
 ghost use Rattle.file_tree.specs.declared.errno.Errno.TheVariants.{ENOENT};
@@ -30,6 +31,11 @@ pub type Inode = u64;
 ///
 /// An entry is in the tree while a name leads to it, and after that as long as it is held. Paths are bytes. One that
 /// begins with a slash starts at the root, another at the directory that is given.
+///
+/// An entry is looked up by its inode in time that is logarithmic in the number of entries. Each call but `copy` does so a
+/// constant number of times, a walk once for each part, and beside that costs what stands with it. None of these touches the
+/// bytes of another file, or goes through the entries: how many are linked, and how many bytes the linked files have, is
+/// kept.
 #[derive(Drop)]
 pub struct Tree {
     nodes: Nodes,
@@ -52,18 +58,20 @@ impl Model for Tree {
 }
 
 impl Tree {
-    ghost use Rattle.file_tree.specs.Nodes.{new_tree, Has, node_in, kind_in, holds_in, linked_by, file_bytes, tree_bytes, names_in, path_by};
+    ghost use Rattle.file_tree.specs.Nodes.{new_tree, Has, node_in, kind_in, holds_in, linked_in, linked_by, file_bytes, tree_bytes, names_in, path_by};
     ghost use Rattle.file_tree.specs.Walk.{Spot, walked, spot_of};
     ghost use Rattle.file_tree.specs.Making.{make_refused, made, made_at, with_made, new_node as node_made, path_below};
     ghost use Rattle.file_tree.specs.Unlinking.{unlink_refused, unlinked, with_unlinked};
     ghost use Rattle.file_tree.specs.Ready.{has_slash, IsMakeable, IsEntry, IsTakeable};
     ghost use Rattle.file_tree.specs.Files.{read_from, written, truncated, total_after};
     ghost use Rattle.file_tree.specs.Holds.{held, released};
-    ghost use Rattle.file_tree.specs.Answers.{Answers, AnswersAlways, HoldsStay, HeldStay, IsMade, IsTaken, IsFilled, IsHeld, IsReleased, Leads, Loses};
+    ghost use Rattle.file_tree.specs.Whole.{IsSound};
+    ghost use Rattle.file_tree.specs.Answers.{Answers, AnswersAlways, HoldsStay, HeldStay, IsMade, GainsName, IsNamed, IsTaken, LosesName, IsUnnamed, IsFilled, IsHeld, IsReleased, Leads, Loses};
 
     /// The root alone.
     pub fn new(alloc: Global) -> Result<Tree, AllocError>
-        ensures { IfOk result (λ tree. tree ≡ new_tree) }
+        ensures alone { IfOk result (λ tree. tree ≡ new_tree) }
+        ensures sound { IfOk result (λ tree. IsSound tree) }
     {
         Ok(Tree {
             nodes: Nodes::new(alloc)?,
@@ -73,19 +81,22 @@ impl Tree {
         })
     }
 
-    /// The inode of the root.
+    /// The inode of the root. Its contract also tells what every tree keeps.
     pub fn root(&self) -> Inode
         ensures root { result ≡ 1 }
         ensures kind { kind_in self.now result ≡ Some Dir }
         ensures there { Has self.now result }
+        ensures sound { IsSound self.now }
     {
         let _ = &self.nodes;
         1
     }
 
-    /// An equal tree, with the same inodes. Its cost is in the bytes of all files and names.
+    /// An equal tree, with the same inodes and holds. Its cost is in the number of entries and in the bytes of all files and
+    /// names, and so is its memory.
     pub fn copy(&self) -> Result<Tree, AllocError>
-        ensures { IfOk result (λ copy. copy ≡ self.now) }
+        ensures same { IfOk result (λ copy. copy ≡ self.now) }
+        ensures sound { IfOk result (λ copy. IsSound copy) }
     {
         Ok(Tree {
             nodes: self.nodes.clone()?,
@@ -95,11 +106,13 @@ impl Tree {
         })
     }
 
-    /// The inode that a path leads to, from a directory on.
+    /// The inode that a path leads to, from a directory on. Its cost is in the bytes of the path, and for each part a look-up of
+    /// an entry and one of a name, which is logarithmic in the number of the directory's names. It takes no memory.
     pub fn walk(&self, from: Inode, path: &[u8]) -> Result<Inode, Errno>
         requires { Has self.now from }
         ensures found { result ≡ walked self.now from path.now }
         ensures there { IfOk result (λ inode. Has self.now inode) }
+        ensures linked { IfOk result (λ inode. inode ≢ from → linked_in self.now inode ≡ true) }
     {
         match path_refusal(path) {
             Some(errno) => Err(errno),
@@ -121,7 +134,7 @@ impl Tree {
         }
     }
 
-    /// Makes an empty file.
+    /// Makes an empty file. Its cost is that of a walk; its memory is that of the entry and its name.
     pub fn create_file(
         &mut self,
         alloc: Global,
@@ -132,12 +145,13 @@ impl Tree {
         ensures answers { Answers result (made File from path.now self.old) self.old self.new }
         ensures inode { IfOk result (λ inode. inode ≡ self.old.next) }
         ensures made { IfOk result (λ inode. IsMade File inode self.old self.new) }
+        ensures named { IfOk result (λ inode. IsNamed from path.now inode self.old self.new) }
         ensures found { IfOk result (λ inode. walked self.new from path.now ≡ Ok inode) }
     {
         self.make(alloc, Kind::File, from, path)
     }
 
-    /// Makes an empty directory.
+    /// Makes an empty directory. Its cost is that of a walk; its memory is that of the entry and its name.
     pub fn create_dir(
         &mut self,
         alloc: Global,
@@ -148,6 +162,7 @@ impl Tree {
         ensures answers { Answers result (made Dir from path.now self.old) self.old self.new }
         ensures inode { IfOk result (λ inode. inode ≡ self.old.next) }
         ensures made { IfOk result (λ inode. IsMade Dir inode self.old self.new) }
+        ensures named { IfOk result (λ inode. IsNamed from path.now inode self.old self.new) }
         ensures found { IfOk result (λ inode. walked self.new from path.now ≡ Ok inode) }
     {
         self.make(alloc, Kind::Dir, from, path)
@@ -165,6 +180,7 @@ impl Tree {
         ensures answers { Answers result (made kind from path.now self.old) self.old self.new }
         ensures inode { IfOk result (λ inode. inode ≡ self.old.next) }
         ensures made { IfOk result (λ inode. IsMade kind inode self.old self.new) }
+        ensures named { IfOk result (λ inode. IsNamed from path.now inode self.old self.new) }
         ensures found { IfOk result (λ inode. walked self.new from path.now ≡ Ok inode) }
     {
         match self.spot(from, path) {
@@ -186,6 +202,7 @@ impl Tree {
         ensures answers { Answers result (made_at kind ends self.old (record { at = at; name = name.now })) self.old self.new }
         ensures inode { IfOk result (λ inode. inode ≡ self.old.next) }
         ensures made { IfOk result (λ inode. IsMade kind inode self.old self.new) }
+        ensures named { IfOk result (λ inode. GainsName (record { at = at; name = name.now }) inode self.old self.new) }
         ensures leads { IfOk result (λ inode. Leads kind (record { at = at; name = name.now }) inode self.old self.new) }
     {
         match self.make_refusal(at, name, ends) {
@@ -201,6 +218,7 @@ impl Tree {
         ensures ok { OnOk result (self.new ≡ record { nodes = with_made at name.now self.old.next (node_made kind (record { at = at; name = name.now }) self.old.nodes) self.old.nodes; next = self.old.next + 1 }) }
         ensures inode { IfOk result (λ inode. inode ≡ self.old.next) }
         ensures made { IfOk result (λ inode. IsMade kind inode self.old self.new) }
+        ensures named { IfOk result (λ inode. GainsName (record { at = at; name = name.now }) inode self.old self.new) }
         ensures leads { IfOk result (λ inode. Leads kind (record { at = at; name = name.now }) inode self.old self.new) }
         ensures memory { IfErr result (λ fault. fault ≡ Memory) }
         ensures err { OnErr result (self.new ≡ self.old) }
@@ -242,11 +260,13 @@ impl Tree {
         }
     }
 
-    /// Takes a file away, or with `dir` an empty directory.
+    /// Takes a file away, or with `dir` an empty directory. Its cost is that of two walks. What isn't held is freed, which may
+    /// cost in its bytes once more. It takes no memory.
     pub fn unlink(&mut self, from: Inode, path: &[u8], dir: bool) -> Result<(), Errno>
         requires { Has self.old from }
         ensures answers { AnswersAlways result (unlinked from path.now dir self.old) self.old self.new }
         ensures taken { OnOk result ((inode : ℕ) → walked self.old from path.now ≡ Ok inode → IsTaken inode self.old self.new) }
+        ensures unnamed { OnOk result ((inode : ℕ) → walked self.old from path.now ≡ Ok inode → IsUnnamed from path.now inode self.old self.new) }
         ensures kinds { OnOk result (HeldStay self.old self.new) }
         ensures holds { OnOk result (HoldsStay self.old self.new) }
         ensures gone { OnOk result (walked self.new from path.now ≡ Err ENOENT) }
@@ -268,6 +288,7 @@ impl Tree {
         requires { walked self.old from path.now ≡ Ok inode }
         ensures answers { AnswersAlways result (unlinked from path.now dir self.old) self.old self.new }
         ensures taken { OnOk result (IsTaken inode self.old self.new) }
+        ensures unnamed { OnOk result (IsUnnamed from path.now inode self.old self.new) }
         ensures gone { OnOk result (walked self.new from path.now ≡ Err ENOENT) }
     {
         match self.spot(from, path) {
@@ -288,6 +309,7 @@ impl Tree {
         requires can { IsTakeable self.old.nodes name.now inode }
         ensures nodes { self.new ≡ record { nodes = with_unlinked at name.now inode self.old.nodes; next = self.old.next } }
         ensures taken { IsTaken inode self.old self.new }
+        ensures unnamed { LosesName (record { at = at; name = name.now }) inode self.old self.new }
         ensures loses { Loses (record { at = at; name = name.now }) self.old self.new }
     {
         let size = self.nodes.size(inode) as u64;
@@ -314,6 +336,7 @@ impl Tree {
     }
 
     /// What an entry is.
+    #[tactic(auto, unfolding(crate::specs::Nodes::kind_in))]
     pub fn kind(&self, node: Inode) -> Kind
         requires { Has self.now node }
         ensures { kind_in self.now node ≡ Some result }
@@ -333,10 +356,13 @@ impl Tree {
         self.nodes.size(node) as u64
     }
 
-    /// The names of a directory, in rising order of their bytes. Its cost is in their bytes.
+    /// The names of a directory, in rising order of their bytes, so that each stands there once. Each leads, as a path from
+    /// the directory, to its inode. Its cost is in their bytes, and so is its memory.
     pub fn names(&self, alloc: Global, dir: Inode) -> Result<Vec<Text>, AllocError>
         requires { kind_in self.now dir ≡ Some Dir }
-        ensures { IfOk result (λ names. names.items ≡ keys_of (names_in self.now.nodes dir)) }
+        ensures names { IfOk result (λ names. names.items ≡ keys_of (names_in self.now.nodes dir)) }
+        ensures rising { AreRising (names_in self.now.nodes dir) }
+        ensures leads { (name : List ℕ) (inode : ℕ) → entry_named name (names_in self.now.nodes dir) ≡ Some inode → walked self.now dir name ≡ Ok inode }
     {
         match self.nodes.get(dir) {
             Some(node) => node.names(alloc),
@@ -356,7 +382,8 @@ impl Tree {
         }
     }
 
-    /// Writes bytes into a file from an offset on, whole or not at all.
+    /// Writes bytes into a file from an offset on, whole or not at all. Its cost is in the number of bytes and of the zeros in
+    /// front of them, amortised where the file grows: its room at least doubles where it is too small, and never shrinks.
     pub fn write_at(&mut self, file: Inode, offset: u64, bytes: &[u8]) -> Result<(), TreeFault>
         requires { kind_in self.old file ≡ Some File }
         ensures answers { Answers result (written file offset bytes.now self.old) self.old self.new }
@@ -375,7 +402,8 @@ impl Tree {
         }
     }
 
-    /// Cuts a file, or fills it up with zeros.
+    /// Cuts a file, or fills it up with zeros. Its cost is in the number of bytes that go or come, amortised as that of a
+    /// write. A cut takes no memory.
     pub fn truncate(&mut self, file: Inode, size: u64) -> Result<(), TreeFault>
         requires { kind_in self.old file ≡ Some File }
         ensures answers { Answers result (truncated file size self.old) self.old self.new }
@@ -413,7 +441,7 @@ impl Tree {
         }
     }
 
-    /// Holds an entry once more.
+    /// Holds an entry once more. It takes no memory.
     #[tactic(auto, unfolding(crate::specs::Holds::held))]
     pub fn hold(&mut self, node: Inode)
         requires { Has self.old node }
@@ -423,7 +451,7 @@ impl Tree {
         self.nodes.hold(node);
     }
 
-    /// Holds an entry once less. One that was unlinked goes with its last hold.
+    /// Holds an entry once less. One that was unlinked goes with its last hold, and is freed. It takes no memory.
     #[tactic(auto, unfolding(crate::specs::Holds::released))]
     pub fn release(&mut self, node: Inode)
         requires { 0 < holds_in self.old node }

@@ -2,6 +2,7 @@ pub mod ApartFacts
 pub mod BitFacts
 pub mod ByteFacts
 pub mod CellFacts
+pub mod CodeFacts
 pub mod Counting
 pub mod FaultFacts
 pub mod FindingFacts

@@ -1,5 +1,5 @@
 -- The cells after the pages of a range are changed one by one.
-use Rattle.std.proofs.Common.{◌≡◌, ◌≢◌, ◌⊎◌, ℕ, zero, suc, ◌+◌, ◌-◌, ◌*◌, ◌/◌, ◌%◌, ◌^◌, ◌<◌, ◌≤◌, Bool, true, false, not, ◌||◌, if◌then◌else◌, List, [], length, Option, Some, None, inl, inr, refl, sym, ap, ◌∙◌, arith}
+use Rattle.std.proofs.Common.{◌≡◌, ◌≢◌, ◌⊎◌, ℕ, zero, suc, ◌+◌, ◌-◌, ◌*◌, ◌/◌, ◌%◌, ◌^◌, ◌<◌, ◌≤◌, Bool, true, false, not, ◌||◌, if◌then◌else◌, List, [], length, Option, Some, None, slice_get, inl, inr, refl, sym, ap, ◌∙◌, arith}
 use Rattle.std.proofs.lemmas.Bool.{cases_lt, cases_eq}
 use Rattle.guest_pages.specs.declared.rights.Rights.{Rights}
 use Rattle.guest_pages.specs.declared.page.Page.{Page}
@@ -7,12 +7,13 @@ use Rattle.guest_pages.specs.declared.page.Table.{Table}
 use Rattle.guest_pages.specs.declared.page.Page.TheVariants.{Absent, Bare, Held}
 use Rattle.guest_pages.specs.Cells.{Cell, cell, has_none}
 use Rattle.guest_pages.specs.Counting.{rights_of, some_right, one_if, count_pages}
-use Rattle.guest_pages.specs.Mapping.{HasMark, with_nothing, with_zeros, with_new_rights}
+use Rattle.guest_pages.specs.Mapping.{HasMark, room_of, with_nothing, with_zeros, with_new_rights}
 use Rattle.guest_pages.specs.Operations.{placed, protected, unmapped, with_rights, stored_pages}
 use Rattle.guest_pages.specs.Ranges.{Range, within, ranges_of}
 use Rattle.guest_pages.specs.Tables.{bare_if, cell_in, mark_at, nothing, page_at, cells, held, right_in, AreMarked, IsSound}
 use Rattle.guest_pages.specs.Finding.{is_mapped}
 use Rattle.guest_pages.proofs.BitFacts.{bits_nowhere, chosen_in, chosen_out}
+use Rattle.guest_pages.proofs.PageFacts.{page_without_room}
 use Rattle.guest_pages.proofs.WriteFacts.{either_mapped, marked_by, marked_is, marked_same}
 use Rattle.guest_pages.proofs.Counting.{IsPaged, stored_changed, count_alike, count_same, count_at_most, count_split, stored_is, tables_paged}
 use Rattle.guest_pages.proofs.TableFacts.{same_ranges, cell_at_held}
@@ -189,6 +190,20 @@ unfolding with_new_rights ranged
 rights_more f rights tables tables-2 first i page before new others kind a =
     ranged_more f (λ (b : ℕ). with_rights rights (f b)) tables tables-2 first i page before new others
     (λ b here. kind (b % 4096) ∙ ap (with_rights rights) (rights_still f rights tables first i b before here)) a
+
+-- pages in tables without pages have no right, and get none
+pub rights_passed : (f : ℕ → Option Cell) (rights : Rights) (tables : List Table) (first i passed : ℕ) → has_none rights ≡ true → ((a : ℕ) → cells tables a ≡ with_new_rights (4096 * first) (4096 * i) rights f a) → ((n : ℕ) → first + i ≤ n → n < first + i + passed → room_of (slice_get tables (n / 8192)) ≡ 0) → (a : ℕ) → cells tables a ≡ with_new_rights (4096 * first) (4096 * (i + passed)) rights f a
+rights_passed f rights tables first i zero none before rooms a =
+    let e : i ≡ i + 0 = omega arith in
+    before a ∙ ap (λ (n : ℕ). with_new_rights (4096 * first) (4096 * n) rights f a) e
+rights_passed f rights tables first i (suc passed) none before rooms a =
+    let e : i + 1 + passed ≡ i + suc passed = omega arith in
+    let room : room_of (slice_get tables ((first + i) / 8192)) ≡ 0 = rooms (first + i) (omega arith) (omega arith) in
+    let bare = page_without_room tables (first + i) (omega (arith, room)) in
+    rights_passed f rights tables first (i + 1) passed none
+    (rights_more f rights tables tables first i (page_at tables (first + i)) before refl (λ n other. refl) (λ k. bare_still rights (page_at tables (first + i)) (mark_at tables (first + i)) k none bare))
+    (λ n low high. rooms n (omega arith) (omega arith)) a
+    ∙ ap (λ (n : ℕ). with_new_rights (4096 * first) (4096 * n) rights f a) e
 
 -- the memory that is mapped, by its cells
 pub placed_held : (tables tables-2 : List Table) (start count : ℕ) (rights : Rights) → length tables ≤ 8192 → ((a : ℕ) → cells tables-2 a ≡ with_zeros start count rights (cells tables) a) → held tables-2 ≡ placed start count rights (held tables)

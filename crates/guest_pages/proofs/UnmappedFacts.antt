@@ -1,61 +1,69 @@
 -- The least address that is not mapped.
-use Rattle.std.proofs.Common.{◌≡◌, ℕ, zero, suc, ◌+◌, ◌*◌, ◌/◌, ◌%◌, ◌<◌, ◌≤◌, List, length, Option, Some, None, Result, Ok, Err, inl, inr, refl, sym, ap, ◌∙◌, arith}
+use Rattle.std.proofs.Common.{◌≡◌, ℕ, zero, suc, ◌+◌, ◌-◌, ◌*◌, ◌/◌, ◌%◌, ◌<◌, ◌≤◌, Bool, true, false, if◌then◌else◌, List, length, Option, Some, None, inl, inr, refl, sym, ap, ◌∙◌, arith}
 use Rattle.std.proofs.lemmas.Bool.{cases_eq}
-use Rattle.guest_pages.specs.declared.fault.PageFault.{PageFault}
-use Rattle.guest_pages.specs.declared.fault.PageFault.TheVariants.{NotMapped, NoAccess}
 use Rattle.guest_pages.specs.declared.page.Table.{Table}
 use Rattle.guest_pages.specs.Cells.{Cell}
-use Rattle.guest_pages.specs.Faults.{fault_of, fault_or, first_fault, answer_or, first_unmapped, unmapped_or}
+use Rattle.guest_pages.specs.Faults.{first_unmapped, unmapped_or}
+use Rattle.guest_pages.specs.Finding.{is_mapped}
 use Rattle.guest_pages.specs.Ranges.{Range, cell_at}
-use Rattle.guest_pages.specs.Tables.{cells, held, nothing}
+use Rattle.guest_pages.specs.Tables.{cells, held, is_present, page_at}
+use Rattle.guest_pages.proofs.FindingFacts.{mapped_here}
 use Rattle.guest_pages.proofs.TableFacts.{cell_at_held}
 
-fault_from : Option ℕ → Option PageFault
-fault_from None = None
-fault_from (Some address) = Some (NotMapped address)
+-- ---- from the end of a range down
 
-fault_step : (address : ℕ) (o : Option Cell) (rest : Option ℕ) → fault_or (fault_of nothing address o) (fault_from rest) ≡ fault_from (unmapped_or address o rest)
-unfolding fault_from
-fault_step address None rest = refl
-fault_step address (Some c) rest = refl
+-- an address that is mapped is passed
+or_rest : (address : ℕ) (o : Option Cell) (rest : Option ℕ) → is_mapped o ≡ true → unmapped_or address o rest ≡ rest
+or_rest address None rest mapped = cc
+or_rest address (Some c) rest mapped = refl
 
-unmapped_fault : (memory : List Range) (at n : ℕ) → first_fault nothing memory at n ≡ fault_from (first_unmapped memory at n)
-unfolding first_fault first_unmapped fault_from
-unmapped_fault memory at zero = refl
-unmapped_fault memory at (suc n) =
-    ap (fault_or (fault_of nothing at (cell_at memory at))) (unmapped_fault memory (at + 1) n)
-    ∙ fault_step at (cell_at memory at) (first_unmapped memory (at + 1) n)
+or_here : (address : ℕ) (o : Option Cell) (rest : Option ℕ) → is_mapped o ≡ false → unmapped_or address o rest ≡ Some address
+or_here address None rest free = refl
+or_here address (Some c) rest free = cc
 
-answer_of : Option PageFault → Result (Unit {0}) PageFault
-answer_of fault = answer_or fault tt
+unmapped_behind : (memory : List Range) (at m n : ℕ) → ((a : ℕ) → at ≤ a → a < at + m → is_mapped (cell_at memory a) ≡ true) → first_unmapped memory at (m + n) ≡ first_unmapped memory (at + m) n
+unfolding first_unmapped
+unmapped_behind memory at zero n mapped =
+    let e : at ≡ at + 0 = omega arith in
+    let k : 0 + n ≡ n = omega arith in
+    ap (first_unmapped memory at) k ∙ ap (λ (q : ℕ). first_unmapped memory q n) e
+unmapped_behind memory at (suc m) n mapped =
+    let e : at + 1 + m ≡ at + suc m = omega arith in
+    let k : suc m + n ≡ suc (m + n) = omega arith in
+    ap (first_unmapped memory at) k
+    ∙ or_rest at (cell_at memory at) (first_unmapped memory (at + 1) (m + n)) (mapped at (omega arith) (omega arith))
+    ∙ unmapped_behind memory (at + 1) m n (λ a low high. mapped a (omega arith) (omega arith))
+    ∙ ap (λ (q : ℕ). first_unmapped memory q n) e
 
-from_ok : (u : Option ℕ) → Ok tt ≡ answer_of (fault_from u) → None ≡ u
-unfolding answer_of fault_from
-from_ok None h = refl
-from_ok (Some a) h = cc
+unmapped_here : (memory : List Range) (at n : ℕ) → 0 < n → is_mapped (cell_at memory at) ≡ false → first_unmapped memory at n ≡ Some at
+unfolding first_unmapped
+unmapped_here memory at zero some free = absurd (omega arith)
+unmapped_here memory at (suc n) some free = or_here at (cell_at memory at) (first_unmapped memory (at + 1) n) free
 
-from_not_mapped : (u : Option ℕ) (address : ℕ) → Err (NotMapped address) ≡ answer_of (fault_from u) → Some address ≡ u
-unfolding answer_of fault_from
-from_not_mapped None address h = cc
-from_not_mapped (Some a) address h = cc
+-- what is found among the pages from one on, by what is found behind some that are alike
+pub unmapped_more : (tables : List Table) (page low high : ℕ) (mapped : Bool) (found : Option ℕ) → length tables ≤ 8192 → low < page → page ≤ high → ((n : ℕ) → low ≤ n → n < page → is_present (page_at tables n) ≡ mapped) → found ≡ first_unmapped (held tables) (4096 * page) (4096 * (high - page)) → (if mapped then found else Some (4096 * low)) ≡ first_unmapped (held tables) (4096 * low) (4096 * (high - low))
+unmapped_more tables page low high true found small some order alike is =
+    let at : 4096 * low + 4096 * (page - low) ≡ 4096 * page = omega arith in
+    let size : 4096 * (high - low) ≡ 4096 * (page - low) + 4096 * (high - page) = omega arith in
+    is
+    ∙ ap (λ (q : ℕ). first_unmapped (held tables) q (4096 * (high - page))) (sym at)
+    ∙ sym (unmapped_behind (held tables) (4096 * low) (4096 * (page - low)) (4096 * (high - page)) (λ a from to. mapped_here tables a small ∙ alike (a / 4096) (omega arith) (omega arith)))
+    ∙ ap (first_unmapped (held tables) (4096 * low)) (sym size)
+unmapped_more tables page low high false found small some order alike is =
+    let here : 4096 * low / 4096 ≡ low = omega arith in
+    sym (unmapped_here (held tables) (4096 * low) (4096 * (high - low)) (omega arith)
+    (mapped_here tables (4096 * low) small ∙ ap (λ (n : ℕ). is_present (page_at tables n)) here ∙ alike low (omega arith) some))
 
-from_no_access : (u : Option ℕ) (address : ℕ) → Err (NoAccess address) ≡ answer_of (fault_from u) → Some address ≡ u
-unfolding answer_of fault_from
-from_no_access None address h = cc
-from_no_access (Some a) address h = cc
+-- none is found where there are no pages
+pub unmapped_nowhere : (memory : List Range) (at n : ℕ) → n ≡ 0 → None ≡ first_unmapped memory at n
+unfolding first_unmapped
+unmapped_nowhere memory at n none = rw none refl
 
-module _ (memory : List Range) (at count : ℕ) where
-  pub unmapped_ok : ◌≡◌ {A = Result (Unit {0}) PageFault} (Ok tt) (answer_or (first_fault nothing memory at count) tt) → None ≡ first_unmapped memory at count
-  unfolding answer_of
-  unmapped_ok h = from_ok (first_unmapped memory at count) (h ∙ ap answer_of (unmapped_fault memory at count))
+pub unmapped_all : (memory : List Range) (found : Option ℕ) (first page at count size : ℕ) → found ≡ first_unmapped memory (4096 * page) (4096 * size) → 4096 * page ≡ at → size ≡ count → found ≡ first_unmapped memory at (4096 * count)
+unmapped_all memory found first page at count size is at_is size_is =
+    is ∙ ap (λ (q : ℕ). first_unmapped memory q (4096 * size)) at_is ∙ ap (λ (n : ℕ). first_unmapped memory at (4096 * n)) size_is
 
-  pub unmapped_err : (address : ℕ) → ◌≡◌ {A = Result (Unit {0}) PageFault} (Err (NotMapped address)) (answer_or (first_fault nothing memory at count) tt) → Some address ≡ first_unmapped memory at count
-  unfolding answer_of
-  unmapped_err address h = from_not_mapped (first_unmapped memory at count) address (h ∙ ap answer_of (unmapped_fault memory at count))
-
-  pub unmapped_never : (address : ℕ) → ◌≡◌ {A = Result (Unit {0}) PageFault} (Err (NoAccess address)) (answer_or (first_fault nothing memory at count) tt) → Some address ≡ first_unmapped memory at count
-  unfolding answer_of
-  unmapped_never address h = from_no_access (first_unmapped memory at count) address (h ∙ ap answer_of (unmapped_fault memory at count))
+-- ---- where none is found
 
 rest_of : (address : ℕ) (o : Option Cell) (rest : Option ℕ) → unmapped_or address o rest ≡ None → (o ≡ None → ⊥) × (rest ≡ None)
 rest_of address None rest h = absurd (some_none address h)

@@ -1,8 +1,8 @@
 -- Memory in which nothing can be both written and executed, so that no store changes code.
 -- The project's own.
-use Rattle.std.specs.Prelude.{◌≡◌, ℕ, ◌≤◌, ◌^◌, Bool, true, not, ◌&&◌, if◌then◌else◌, List, Option, Some, None}
+use Rattle.std.specs.Prelude.{◌≡◌, ℕ, ◌≤◌, Bool, true, not, ◌&&◌, if◌then◌else◌, List, Option, Some, None}
 use Rattle.guest_pages.specs.Cells.{Cell}
-use Rattle.guest_pages.specs.Ranges.{Range, cell_at}
+use Rattle.guest_pages.specs.Ranges.{Range, cell_at, ranges_of}
 use Rattle.guest_pages.specs.Limits.{user_end}
 
 -- what stands at an address can't be both written and executed
@@ -19,6 +19,10 @@ pub record IsApart (memory : List Range) : Type 0 where
 abbrev pub code_in : Option Cell → Option Cell
 code_in None = None
 code_in (Some c) = if c.rights.execute then Some c else None
+
+-- the ranges that can be executed
+unfoldable pub code_of : List Range → List Range
+code_of memory = ranges_of (λ address. code_in (cell_at memory address))
 
 -- the same addresses can be executed, and have the same bytes and rights
 abbrev pub KeepsCode : List Range → List Range → Type 0

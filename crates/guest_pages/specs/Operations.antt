@@ -1,6 +1,6 @@
 -- What the operations on memory read and leave, each told by what then stands at each address.
 -- Source: mmap(2), munmap(2), mprotect(2). That no more than 65,536 pages are stored is the project's own.
-use Rattle.std.specs.Prelude.{ℕ, zero, suc, ◌+◌, ◌-◌, ◌/◌, true, false, if◌then◌else◌, List, [], ◌∷◌, get_or, length, Option, Some, None}
+use Rattle.std.specs.Prelude.{ℕ, zero, suc, ◌+◌, ◌-◌, ◌/◌, if◌then◌else◌, List, [], ◌∷◌, get_or, length, Option, Some, None}
 use Rattle.guest_pages.specs.declared.rights.Rights.{Rights}
 use Rattle.guest_pages.specs.Cells.{Cell, cell, has_none}
 use Rattle.guest_pages.specs.Ranges.{Range, within, cell_at, ranges_of}

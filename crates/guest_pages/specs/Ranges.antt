@@ -1,7 +1,7 @@
 -- The guest's memory: a list of ranges that don't meet, in one canonical form. The ranges rise, and addresses that touch
 -- and have equal rights are in one range. The form is made from cells: what stands at each address.
 -- Source: mmap(2); the form is the project's own.
-use Rattle.std.specs.Prelude.{ℕ, zero, suc, ◌+◌, ◌-◌, ◌^◌, Bool, ◌&&◌, ◌==◌, nat_le, nat_lt, if◌then◌else◌, List, [], ◌∷◌, get_or, Option, Some, None}
+use Rattle.std.specs.Prelude.{ℕ, zero, suc, ◌+◌, ◌-◌, Bool, ◌&&◌, ◌==◌, nat_le, nat_lt, if◌then◌else◌, List, [], ◌∷◌, get_or, Option, Some, None}
 use Rattle.guest_pages.specs.declared.rights.Rights.{Rights}
 use Rattle.guest_pages.specs.Cells.{Cell, cell, has_none, same_rights}
 use Rattle.guest_pages.specs.Limits.{user_end}

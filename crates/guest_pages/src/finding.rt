@@ -1,6 +1,7 @@
 //! Whether something stands in a range of pages, and the highest free range.
 
-ghost use Rattle.std.specs.Prelude.{◌≡◌, ◌+◌, ◌-◌, ◌*◌, ◌<◌, ◌≤◌, ◌^◌, ℕ, length, slice_get};
+ghost use Rattle.std.specs.Prelude.{◌≡◌, ◌+◌, ◌-◌, ◌*◌, ◌%◌, ◌<◌, ◌≤◌, ◌^◌, ℕ, Some, length, slice_get, if◌then◌else◌};
+ghost use Rattle.guest_pages.specs.Faults.{first_unmapped};
 ghost use Rattle.guest_pages.specs.Finding.{any_mapped, touches_code, free_place};
 ghost use Rattle.guest_pages.specs.Tables.{held, marks_in, page_at, page_found, is_present, runs_in, AreMarked};
 
@@ -46,6 +47,33 @@ pub(crate) fn any_present(tables: &[Table], first: u64, count: u64) -> bool
         page -= size.min(page - first);
     }
     false
+}
+
+/// The least address of `count` pages from a byte address on that is not mapped.
+pub(crate) fn unmapped(tables: &[Table], at: u64, count: u64) -> Option<u64>
+    requires small { length tables.now ≤ 8192 }
+    requires marked { AreMarked tables.now }
+    requires aligned { at % 4096 ≡ 0 }
+    requires range { at + 4096 * count ≤ 2 ^ 38 }
+    ensures { result ≡ first_unmapped (held tables.now) at (4096 * count) }
+{
+    let first = at / 4096;
+    let mut page = first + count;
+    let mut found = None;
+    'looking: while page > first {
+        let (size, mapped) = piece_below(tables, page);
+        page -= size.min(page - first);
+        found = found_below(found, page, mapped);
+    }
+    found
+}
+
+/// The address that was found, or that of a page below it which is not mapped.
+fn found_below(found: Option<u64>, page: u64, mapped: bool) -> Option<u64>
+    requires { page < 2 ^ 26 }
+    ensures { result ≡ (if mapped then found else Some (4096 * page)) }
+{
+    if mapped { found } else { Some(4096 * page) }
 }
 
 /// Whether one of `count` pages from one on can be executed. Tables without pages are passed as a whole.

@@ -17,7 +17,7 @@
 //! where memory is wanting; a refusal changes nothing. `grow_break` is a `map` of pages that are free. `unmap` leaves
 //! `unmapped`, and refuses nothing. `any_mapped` and `touches_code` say what stands in a range; `find_free` gives the
 //! highest free range that ends at or below 0x3F00000000, and none exactly where no range fits (`free_place`). No other call
-//! takes memory.
+//! takes memory, but for `code`: it copies the ranges that can be executed (`code_of`), and the copy can be fetched from.
 //!
 //! The addresses and the limits of a process stand here, in `limits.rt` and `specs/Limits.antt`, and so do the rights that
 //! the layers above ask for (`READABLE` and its like).
@@ -41,8 +41,10 @@
 #![tactic(auto)]
 
 mod bits;
+mod code;
 mod copying;
 mod fault;
+mod fetching;
 mod finding;
 mod fresh;
 mod limits;
@@ -56,6 +58,7 @@ mod tables;
 mod width;
 mod writing;
 
+pub use code::Code;
 pub use fault::{MapFault, PageFault};
 pub use limits::{
     MAPS_END, MOST_PAGES, MOST_STACK_BYTES, PAGE_SIZE, SEGMENTS_START, SHARED_OBJECT_BASE,

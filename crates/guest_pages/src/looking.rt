@@ -3,7 +3,7 @@
 ghost use Rattle.std.specs.Prelude.{take, drop, ◌≡◌, ◌+◌, ◌/◌, ◌<◌, ◌≤◌, ◌^◌, ℕ, true, slice_get, length, Some, None, IfSome, OnOk, MatchOption};
 ghost use Rattle.byteorder.specs.Endian.{little_number};
 ghost use Rattle.guest_pages.specs.Sizes.{size_of};
-ghost use Rattle.guest_pages.specs.Faults.{first_fault, first_unmapped, answer_or};
+ghost use Rattle.guest_pages.specs.Faults.{first_fault, answer_or};
 ghost use Rattle.guest_pages.specs.Mapping.{room_of};
 ghost use Rattle.guest_pages.specs.Tables.{bare_if, mark_at, page_at, fault_in, held_in, held, rows_of};
 
@@ -58,13 +58,13 @@ fn has_no_pages(tables: &[Table], place: u64) -> bool
     }
 }
 
-/// How many of `count` pages from one on are in a table without pages, if the first of them is the table's first; or 0.
+/// How many of `count` pages from one on are in the first one's table, if that is without pages; or 0.
 pub(crate) fn without_pages(tables: &[Table], number: u64, count: u64) -> u64
     ensures few { result ≤ count }
     ensures none { (n : ℕ) → number ≤ n → n < number + result → room_of (slice_get tables.now (n / 8192)) ≡ 0 }
 {
-    if number % 8192 == 0 && has_no_pages(tables, number / 8192) {
-        count.min(8192)
+    if has_no_pages(tables, number / 8192) {
+        count.min(8192 - number % 8192)
     } else {
         0
     }
@@ -152,18 +152,6 @@ pub(crate) fn allows(tables: &[Table], at: u64, count: u64, needed: Rights) -> R
         left -= room;
     }
     Ok(())
-}
-
-/// The least of `count` addresses from `at` on that is not mapped.
-pub(crate) fn unmapped(tables: &[Table], at: u64, count: u64) -> Option<u64>
-    requires { length tables.now ≤ 8192 }
-    ensures { result ≡ first_unmapped (held tables.now) at count }
-{
-    match allows(tables, at, count, NOTHING) {
-        Ok(()) => None,
-        Err(PageFault::NotMapped(address)) => Some(address),
-        Err(PageFault::NoAccess(address)) => Some(address),
-    }
 }
 
 /// The half word in the bytes from a place on, the lowest byte first.

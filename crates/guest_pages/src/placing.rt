@@ -10,7 +10,7 @@ ghost use Rattle.guest_pages.specs.Operations.{with_rights, stored_pages};
 ghost use Rattle.guest_pages.specs.Tables.{cell_in, cells, held, mark_at, page_at, right_in, rows_of};
 
 use crate::fresh::{fresh_pages, stored_of};
-use crate::looking::rows;
+use crate::looking::{rows, without_pages};
 use crate::page::{Page, Table};
 use crate::rights::Rights;
 use crate::tables::{empty_rows, has_room, make_room, mark_pages, put_page, take_page};
@@ -233,7 +233,7 @@ fn change_page(
     }
 }
 
-/// The pages of a range get other rights.
+/// The pages of a range get other rights. Tables without pages are passed as a whole, where the rights are none.
 fn change_rows(
     tables: &mut Vec<Table>,
     first: u64,
@@ -249,8 +249,15 @@ fn change_rows(
     ensures marks { (n : ℕ) → mark_at tables.new.items n ≡ mark_at tables.old.items n }
     ensures size { length tables.new.items ≡ length tables.old.items }
 {
-    for i in 0..count {
-        change_page(tables, first + i, rights, fresh);
+    let mut done = 0;
+    'changing: while done < count {
+        let passed = without_pages(tables.as_slice(), first + done, count - done);
+        if passed > 0 {
+            done += passed;
+        } else {
+            change_page(tables, first + done, rights, fresh);
+            done += 1;
+        }
     }
 }
 

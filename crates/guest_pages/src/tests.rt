@@ -164,6 +164,22 @@ fn half_words_of_code_by_one_look_up(rt: HostRuntime) -> Result<(), Fail> {
 }
 
 #[test]
+fn a_copy_of_code_outlives_its_pages(rt: HostRuntime) -> Result<(), Fail> {
+    let mut pages = Pages::new();
+    pages.map(rt.alloc(), 0x1000, 3, BOTH)?;
+    assert_eq!(rt; pages.copy_in(0x1FFE, &[0x82, 0x80, 0x01, 0x45]), Ok(()));
+    pages.protect(rt.alloc(), 0x1000, 2, CODE)?;
+    let code = pages.code(rt.alloc())?;
+    pages.unmap(0x1000, 3);
+    assert_eq!(rt; code.fetch(0x1FFE), Ok(0x8082));
+    assert_eq!(rt; code.fetch(0x1FFF), Ok(0x0180));
+    assert_eq!(rt; code.fetch(0x2000), Ok(0x4501));
+    assert_eq!(rt; code.fetch(0x2FFF), Err(PageFault::NotMapped(0x3000)));
+    assert_eq!(rt; pages.fetch(0x1FFE), Err(PageFault::NotMapped(0x1FFE)));
+    Ok(())
+}
+
+#[test]
 fn numbers_by_one_look_up(rt: HostRuntime) -> Result<(), Fail> {
     let mut pages = Pages::new();
     pages.map(rt.alloc(), 0x1000, 2, BOTH)?;

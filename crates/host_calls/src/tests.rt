@@ -1,6 +1,6 @@
 use super::*;
 use call_table::{Call, CallNo};
-use guest_pages::{CHANGEABLE, Pages, RUNNABLE, Width};
+use guest_pages::{CHANGEABLE, PageFault, Pages, RUNNABLE, Width};
 use std::alloc::Global;
 use std::test::Fail;
 use word_memory::Reservations;
@@ -39,6 +39,9 @@ const ALL_ONES: u64 = u64::MAX;
 
 /// The lowest address that isn't a user address.
 const END: u64 = 0x40_0000_0000;
+
+/// The last page of all numbers of 64 bits.
+const LAST_PAGE: u64 = 0xFFFF_FFFF_FFFF_F000;
 
 /// Private and anonymous, and with a fixed place.
 const PRIVATE: u64 = 0x22;
@@ -164,13 +167,110 @@ fn maps_and_the_break_by_their_edges(rt: HostRuntime) -> Result<(), Fail> {
         (CallNo::Mprotect, [0x1_0000, 1, 4, 0, 0, 0], -13),
         (CallNo::Mprotect, [0x1_0000, 4097, 1, 0, 0, 0], -12),
         (CallNo::Mprotect, [END, 1, 1, 0, 0, 0], -12),
-        // code stays as it is: in the last page of the range
+        // past 2^64
+        (CallNo::Munmap, [LAST_PAGE, 0x2000, 0, 0, 0, 0], -22),
+        (CallNo::Mprotect, [LAST_PAGE, 0x2000, 1, 0, 0, 0], -12),
+        (
+            CallNo::Mmap,
+            [LAST_PAGE, 0x2000, 3, FIXED, ALL_ONES, 0],
+            -12,
+        ),
+        (CallNo::Mmap, [LAST_PAGE, 1, 3, 0x10_0022, ALL_ONES, 0], -12),
+        // code stays as it is: in the last page of the range, and in the first
         (CallNo::Munmap, [0x1_0000, 0x6000, 0, 0, 0, 0], -13),
+        (CallNo::Munmap, [0x1_5000, 0x2000, 0, 0, 0, 0], -13),
         (CallNo::Mprotect, [0x1_5000, 1, 1, 0, 0, 0], -13),
+        // before pages that aren't mapped or aren't of user addresses
+        (CallNo::Mprotect, [0x1_0000, 0x6000, 1, 0, 0, 0], -13),
+        (CallNo::Mprotect, [0x1_5000, ALL_ONES, 1, 0, 0, 0], -13),
         (CallNo::Mmap, [0x1_4000, 0x2000, 3, FIXED, ALL_ONES, 0], -13),
+        (
+            CallNo::Mmap,
+            [0x1_5000, ALL_ONES, 3, FIXED, ALL_ONES, 0],
+            -13,
+        ),
     ];
     for (no, args, wanted) in table {
         assert_eq!(rt; answer(&mut host, no, args)?, wanted, "{no:?} {wanted}");
+    }
+    Ok(())
+}
+
+#[test]
+fn as_many_pages_are_stored_as_may_be(rt: HostRuntime) -> Result<(), Fail> {
+    let mut host = host(rt.alloc())?;
+    let table = [
+        // two pages are stored, so that 65,534 are left
+        (CallNo::Mmap, [0, 0xFFF_F000, 3, PRIVATE, ALL_ONES, 0], -12),
+        (
+            CallNo::Mmap,
+            [0, 0xFFF_E000, 3, PRIVATE, ALL_ONES, 0],
+            0x3E_F000_2000,
+        ),
+        (CallNo::Mmap, [0, 1, 1, PRIVATE, ALL_ONES, 0], -12),
+        (CallNo::Brk, [0x2_0001, 0, 0, 0, 0, 0], 0x2_0000),
+        // a page without rights isn't stored, until it gets one
+        (
+            CallNo::Mmap,
+            [0, 1, 0, PRIVATE, ALL_ONES, 0],
+            0x3E_F000_1000,
+        ),
+        (CallNo::Mprotect, [0x3E_F000_1000, 1, 1, 0, 0, 0], -12),
+        (CallNo::Munmap, [0x3E_F000_2000, 1, 0, 0, 0, 0], 0),
+        (CallNo::Mprotect, [0x3E_F000_1000, 1, 1, 0, 0, 0], 0),
+    ];
+    for (no, args, wanted) in table {
+        assert_eq!(rt; answer(&mut host, no, args)?, wanted, "{no:?} {wanted}");
+    }
+    Ok(())
+}
+
+#[test]
+fn a_break_that_is_lowered_and_raised_has_zeros(rt: HostRuntime) -> Result<(), Fail> {
+    let mut host = host(rt.alloc())?;
+    // a byte of the break's second page, to which 7 is written after each
+    let table = [
+        (0x2_2000, 0x2_2000, Ok(0)),
+        (0x2_2001, 0x2_2001, Ok(7)),
+        (0x2_1000, 0x2_1000, Err(PageFault::NotMapped(0x2_1000))),
+        (0x2_1FFF, 0x2_1FFF, Ok(0)),
+    ];
+    for (wish, moved, wanted) in table {
+        let given = answer(&mut host, CallNo::Brk, [wish, 0, 0, 0, 0, 0])?;
+        assert_eq!(rt; given, moved, "{wish}");
+        assert_eq!(rt; host.pages.load(0x2_1000, Width::One), wanted, "{wish}");
+        let _ = host.pages.store(0x2_1000, Width::One, 7);
+    }
+    Ok(())
+}
+
+/// The arguments of a call of which all is fine but an address.
+fn with_address(no: CallNo, at: u64) -> [u64; 6] {
+    match no {
+        CallNo::Write => [1, at, 2, 0, 0, 0],
+        CallNo::ClockGettime => [0, at, 0, 0, 0, 0],
+        CallNo::Prlimit64 => [0, 3, 0, at, 0, 0],
+        CallNo::Getrandom => [at, 2, 0, 0, 0, 0],
+        _ => [at, 0, 0, 0, 0, 0],
+    }
+}
+
+#[test]
+fn addresses_that_are_bad_are_refused(rt: HostRuntime) -> Result<(), Fail> {
+    let mut host = host(rt.alloc())?;
+    let calls = [
+        CallNo::Write,
+        CallNo::ClockGettime,
+        CallNo::Prlimit64,
+        CallNo::Getrandom,
+        CallNo::Uname,
+    ];
+    // in the first page, across the end of a page, of user addresses, and the last byte
+    for no in calls {
+        for at in [1, 0x1_0FFF, END - 1, ALL_ONES] {
+            let given = answer(&mut host, no, with_address(no, at))?;
+            assert_eq!(rt; given, -14, "{no:?} {at}");
+        }
     }
     Ok(())
 }

@@ -1,10 +1,11 @@
 -- How many pages segments store.
 use Rattle.std.proofs.Common.{◌≡◌, ℕ, zero, suc, ◌+◌, ◌-◌, ◌≤◌, ◌<◌, ◌⊎◌, inl, inr, Bool, true, false, not, ◌&&◌, ◌||◌, if◌then◌else◌, List, [], ◌∷◌, length, get_or, take, drop, map, refl, ap, sym, subst, ◌∙◌, arith}
 use Rattle.std.proofs.lemmas.Grind.{common_steps}
-use Rattle.std.proofs.lemmas.List.{drop-map, take_rest}
+use Rattle.std.proofs.Math.Numerals.{suc-eq-add-one}
+use Rattle.std.proofs.Math.Seq.{drop-cons}
+use Rattle.std.proofs.lemmas.List.{drop-map, get_or-map, length-map, take_rest}
 use Rattle.elf_file.specs.declared.loaded.Segment.{Segment}
 use Rattle.elf_file.specs.Views.{segment_image}
-use Rattle.segment_load.proofs.StepFacts.{image_next}
 use Rattle.std.specs.List.{list_all}
 use Rattle.elf_file.specs.Segments.{SegmentImage, all_pairs, first_page, has_byte, last_page, shares_byte}
 use Rattle.segment_load.specs.Loading.{touches}
@@ -33,7 +34,7 @@ others_last later page (suc n) =
 
 -- ---- pages between the first and the last are of one segment alone
 
-apart_by : (s t : SegmentImage) (page : ℕ) (touched : Bool) → shares_byte s t ≡ false → first_page s < page → page < last_page s → touches t page ≡ touched → touched ≡ false
+pub apart_by : (s t : SegmentImage) (page : ℕ) (touched : Bool) → shares_byte s t ≡ false → first_page s < page → page < last_page s → touches t page ≡ touched → touched ≡ false
 unfolding touches shares_byte
 apart_by s t page true none after before is = absurd (grind (arith, common_steps))
 apart_by s t page false none after before is = refl
@@ -42,15 +43,15 @@ and_false : (a b : Bool) → b ≡ false → (a && b) ≡ false
 and_false true b is = is
 and_false false b is = refl
 
-not_true : (b : Bool) → not b ≡ true → b ≡ false
+pub not_true : (b : Bool) → not b ≡ true → b ≡ false
 not_true true is = cc
 not_true false is = refl
 
-and_left : (a b : Bool) → (a && b) ≡ true → a ≡ true
+pub and_left : (a b : Bool) → (a && b) ≡ true → a ≡ true
 and_left true b is = refl
 and_left false b is = cc
 
-and_right : (a b : Bool) → (a && b) ≡ true → b ≡ true
+pub and_right : (a b : Bool) → (a && b) ≡ true → b ≡ true
 and_right true b is = is
 and_right false b is = cc
 
@@ -128,6 +129,30 @@ pages_next all some s is = rw is refl
 pub pages_none : (all : List SegmentImage) → all ≡ [] → pages_of all ≡ 0
 unfolding pages_of
 pages_none all none = rw none refl
+
+-- ---- the rest of a list of segments
+
+pub image_next : (segments : List Segment) (k : ℕ) (d : Segment) → k < length segments → drop k (map segment_image segments) ≡ segment_image (get_or segments k d) ∷ drop (k + 1) (map segment_image segments)
+image_next segments k d within =
+    let all = map segment_image segments in
+    let cons : drop k all ≡ get_or all k (segment_image d) ∷ drop (suc k) all = drop-cons all k (segment_image d) (simp length-map within) in
+    cons ∙ ap (λ (s : SegmentImage). s ∷ drop (suc k) all) (get_or-map segment_image segments k d (segment_image d) within)
+    ∙ ap (λ (n : ℕ). segment_image (get_or segments k d) ∷ drop n all) (suc-eq-add-one k)
+
+pub image_before : (segments : List Segment) (left : ℕ) (s : Segment) → 0 < left → left ≤ length segments → s ≡ get_or segments (left - 1) s → drop (left - 1) (map segment_image segments) ≡ segment_image s ∷ drop left (map segment_image segments)
+image_before segments left s some few is =
+    let next : left - 1 + 1 ≡ left = omega arith in
+    image_next segments (left - 1) s (omega arith)
+    ∙ ap (λ (t : Segment). segment_image t ∷ drop (left - 1 + 1) (map segment_image segments)) (sym is)
+    ∙ ap (λ (n : ℕ). segment_image s ∷ drop n (map segment_image segments)) next
+
+pub nothing_left : (segments : List SegmentImage) (k : ℕ) → length segments ≤ k → drop k segments ≡ []
+nothing_left segments k past = grind (arith, common_steps)
+
+-- a segment shares no byte with those behind it
+pub apart_next : (segments : List SegmentImage) (k : ℕ) (s : SegmentImage) (some : List SegmentImage) → drop k segments ≡ s ∷ some → all_pairs (λ s t. not (shares_byte s t)) segments ≡ true → list_all (λ t. not (shares_byte s t)) some ≡ true
+apart_next segments k s some is apart =
+    pairs_first (λ s t. not (shares_byte s t)) (drop k segments) some s is (pairs_rest (λ s t. not (shares_byte s t)) segments k apart)
 
 -- ---- whether one of them stores a page
 

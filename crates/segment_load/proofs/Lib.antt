@@ -1,5 +1,8 @@
 pub mod CellFacts
-pub mod StepFacts
 pub mod CountFacts
+pub mod PagedFacts
+pub mod BareFacts
+pub mod GrantFacts
 pub mod FillFacts
+pub mod SeenFacts
 pub mod StoredFacts

@@ -1,3 +1,4 @@
 pub mod Loading
 pub mod Wanted
 pub mod Steps
+pub mod Seen

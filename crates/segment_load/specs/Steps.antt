@@ -1,70 +1,45 @@
--- How the memory comes about, as what stands at each address.
+-- How the memory comes about, by its pages.
 -- Source: the project's own.
-use Rattle.std.specs.Prelude.{◌≡◌, ◌≤◌, ℕ, ◌/◌, ◌^◌, Bool, true, false, ◌||◌, if◌then◌else◌, List, Option, Some, None}
+use Rattle.std.specs.Prelude.{◌≡◌, ◌≤◌, ◌-◌, ℕ, ◌/◌, ◌^◌, Bool, false, ◌||◌, if◌then◌else◌, List, get_or, length, Option, Some, None}
 use Rattle.elf_file.specs.Segments.{SegmentImage}
 use Rattle.guest_pages.specs.declared.rights.Rights.{Rights}
-use Rattle.guest_pages.specs.Cells.{Cell, cell, has_none}
-use Rattle.guest_pages.specs.Operations.{with_rights}
+use Rattle.guest_pages.specs.Cells.{Cell, cell}
 use Rattle.guest_pages.specs.Ranges.{Range, within, ranges_of}
-use Rattle.guest_pages.proofs.Reading.{IsKept}
-use Rattle.segment_load.specs.Loading.{is_touched, no_right, page_rights, byte_at}
-use Rattle.guest_pages.specs.Limits.{page_size, user_end}
+use Rattle.guest_pages.specs.Limits.{page_size}
+use Rattle.segment_load.specs.Loading.{either, no_right, touches}
 
--- what memory can hold at each address
-pub record AreCells (f : ℕ → Option Cell) : Type 0 where
-  pub kept : (a : ℕ) → IsKept (f a)
-  pub low : (a : ℕ) → user_end ≤ a → f a ≡ None
+-- what stands at an address, by the pages that are mapped, the rights of each page and the byte of each address
+unfoldable pub paged : (ℕ → Bool) → (ℕ → Rights) → (ℕ → ℕ) → ℕ → Option Cell
+paged mapped rights bytes address =
+    if mapped (address / page_size) then Some (cell (rights (address / page_size)) (bytes address)) else None
 
--- the memory has these at its addresses
-pub record Has (f : ℕ → Option Cell) (memory : List Range) : Type 0 where
-  pub cells : AreCells f
-  pub is : memory ≡ ranges_of f
+-- the memory has these pages, all of which are of user memory
+pub record HasPages (mapped : ℕ → Bool) (rights : ℕ → Rights) (bytes : ℕ → ℕ) (memory : List Range) : Type 0 where
+  pub low : (page : ℕ) → 2 ^ 26 ≤ page → mapped page ≡ false
+  pub is : memory ≡ ranges_of (paged mapped rights bytes)
 
--- the rights of a page that will have a right, until it has its bytes
-abbrev pub loading : Rights
-loading = record { read = true; write = true; execute = false }
+-- no page has a right
+abbrev pub no_rights : ℕ → Rights
+no_rights page = no_right
 
--- the rights of a page until it has its bytes: none where it has none in the end, so that it stores nothing
-abbrev pub loading_rights : List SegmentImage → ℕ → Rights
-loading_rights segments page = if has_none (page_rights segments page) then no_right else loading
+-- each byte is 0
+abbrev pub zeros : ℕ → ℕ
+zeros address = 0
 
--- pages from one on are changed
-unfoldable pub on_pages : (ℕ → Option Cell → Option Cell) → ℕ → ℕ → (ℕ → Option Cell) → ℕ → Option Cell
-on_pages change first count f a = if within first count (a / page_size) then change (a / page_size) (f a) else f a
+-- the pages of a segment, too
+abbrev pub with_pages : SegmentImage → (ℕ → Bool) → ℕ → Bool
+with_pages s mapped page = touches s page || mapped page
 
--- a page is mapped
-abbrev pub mapped : List SegmentImage → ℕ → Option Cell → Option Cell
-mapped segments page o = Some (cell (loading_rights segments page) 0)
+-- the pages from one on have these rights, too
+abbrev pub with_more : ℕ → ℕ → Rights → (ℕ → Rights) → ℕ → Rights
+with_more first count more rights page = if within first count page then either more (rights page) else rights page
 
--- a page gets the rights of its segments
-abbrev pub granted : List SegmentImage → ℕ → Option Cell → Option Cell
-granted segments page o = with_rights (page_rights segments page) o
+-- bytes from an address on, in place of others
+abbrev pub over : ℕ → List ℕ → (ℕ → ℕ) → ℕ → ℕ
+over start news bytes address =
+    if within start (length news) address then get_or news (address - start) 0 else bytes address
 
--- the pages of some of the segments are mapped
-unfoldable pub mapped_by : List SegmentImage → List SegmentImage → ℕ → Option Cell
-mapped_by segments some a = if is_touched some (a / page_size) then Some (cell (loading_rights segments (a / page_size)) 0) else None
-
--- all pages of segments are mapped, and some of the segments have given their bytes
-unfoldable pub filled_by : List SegmentImage → List SegmentImage → ℕ → Option Cell
-filled_by segments some a =
-    if is_touched segments (a / page_size) then Some (cell (loading_rights segments (a / page_size)) (byte_at some a)) else None
-
--- a byte can be written, or there is no right, and no byte is kept
-abbrev pub can_load : Option Cell → Bool
-can_load None = true
-can_load (Some c) = has_none c.rights || c.rights.write
-
--- so it is at each address
-pub record IsLoading (f : ℕ → Option Cell) : Type 0 where
-  pub all : (a : ℕ) → can_load (f a) ≡ true
-
-abbrev pub rights_so_far : Bool → List SegmentImage → ℕ → Rights
-rights_so_far true segments page = page_rights segments page
-rights_so_far false segments page = loading_rights segments page
-
--- all pages have their bytes, and those of some of the segments their rights
-unfoldable pub granted_by : List SegmentImage → List SegmentImage → ℕ → Option Cell
-granted_by segments some a =
-    if is_touched segments (a / page_size)
-    then Some (cell (rights_so_far (is_touched some (a / page_size)) segments (a / page_size)) (byte_at segments a))
-    else None
+-- the rights of what stands at an address
+abbrev pub rights_in : Option Cell → Rights
+rights_in None = no_right
+rights_in (Some c) = c.rights

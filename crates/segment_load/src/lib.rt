@@ -10,15 +10,26 @@
 //!
 //! `load` makes that memory, and nothing else but want of memory is answered. `wanted_pages` tells how many pages the
 //! segments store: each page of a segment that has a right, once. `laws` says that the memory stores exactly these. While it
-//! is made no more are stored: a page that has no right in the end has none from the first.
+//! is made no more are stored: a page gets no right that it doesn't have in the end, but for those that have one already.
+//!
+//! # Form
+//!
+//! Segments share no byte, so that only the first and the last page of one can be another's. The pages between them are
+//! mapped and given rights as one range. What a page has by other segments isn't looked for among these: it is read from
+//! the memory that is being made. So `load` costs by the number of segments, and not by its square. `wanted_pages` asks such
+//! memory, too, in which the pages that it has counted are mapped without rights; where there is none, it goes over pairs.
 //!
 //! # Sources
 //!
 //! System V ABI, "Program Loading". That a page has the rights of all its segments is the project's own.
 #![tactic(auto)]
 
+mod bare;
 mod counting;
+mod filling;
+mod granting;
 mod loading;
+mod pairs;
 mod rights;
 
 pub use counting::{laws, wanted_pages};

@@ -456,7 +456,8 @@ fn each_page_that_is_stored_is_wanted_once(rt: HostRuntime) -> Result<(), Fail> 
     for (row, (parts, pages)) in table.iter().enumerate() {
         let elf = elf_of(rt.alloc(), 2, *parts, &[])?;
         // and the page of the code
-        assert_eq!(rt; wanted_pages(&elf), pages.wrapping_add(1), "row {row}");
+        let wanted = wanted_pages(&elf);
+        assert_eq!(rt; wanted, pages.wrapping_add(1), "row {row}");
     }
     Ok(())
 }
@@ -512,6 +513,33 @@ fn pages_without_rights_take_no_room(rt: HostRuntime) -> Result<(), Fail> {
         assert_eq!(rt; wanted_pages(&elf), 2);
         laws(&elf);
     }
+    Ok(())
+}
+
+#[test]
+fn a_file_reserves_all_its_addresses_without_rights(rt: HostRuntime) -> Result<(), Fail> {
+    // 248 GiB, less 1 MiB, from which the code is apart. The last bytes of the file are in no page with a right
+    let parts = [
+        filled(0, 0x10_0000, 0x3E_FFF0_0000, 0, 4),
+        filled(READ, 0xF_F000, 0x1000, 4, 2),
+        note(),
+    ];
+    let elf = elf_of(rt.alloc(), 2, parts, &[1, 2, 3, 4, 5, 6])?;
+    let pages = load(rt.alloc(), &elf)?;
+    let none = rights(false, false, false);
+    let given = [
+        (0xF_F000, Some(rights(true, false, false))),
+        (0x10_0000, Some(none)),
+        (0x20_0000_0000, Some(none)),
+        (0x3E_FFFF_F000, Some(none)),
+        (0x3F_0000_0000, None),
+    ];
+    for (at, page) in given {
+        assert_eq!(rt; rights_of_page(&pages, at), page, "{at}");
+    }
+    assert_eq!(rt; pages.load(0xF_F000, Width::Four), Ok(0x0605));
+    // the page that can be read, and that of the code
+    assert_eq!(rt; wanted_pages(&elf), 2);
     Ok(())
 }
 

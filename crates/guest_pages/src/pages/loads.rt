@@ -1,17 +1,21 @@
 //! Loads, fetches, and copies out of the guest's memory.
 
-ghost use Rattle.std.specs.Prelude.{◌≡◌, length, OnOk, OnErr, ◌≤◌, ◌+◌, ◌%◌, Ok, None, IfSome, IsSome};
+ghost use Rattle.std.specs.Prelude.{◌≡◌, length, OnOk, OnErr, ◌≤◌, ◌+◌, ◌%◌, Ok, None, IfOk, IfSome, IsSome};
 ghost use Rattle.byteorder.specs.Endian.{little_number};
+ghost use Rattle.guest_pages.specs.Apart.{code_of};
 ghost use Rattle.guest_pages.specs.Faults.{first_fault, answer_or, readable, executable};
 ghost use Rattle.guest_pages.specs.Operations.{bytes_at};
 ghost use Rattle.guest_pages.specs.Sizes.{size_of};
 
 use super::Pages;
+use crate::code::{Code, code_of};
 use crate::copying::copy_from;
 use crate::fault::PageFault;
+use crate::fetching::fetch_from;
 use crate::looking::{allows, bytes_of, half_at, number_at, rows};
 use crate::rights::{EXECUTABLE, READABLE, Rights};
 use crate::width::Width;
+use std::alloc::{AllocError, Global};
 
 impl Pages {
     /// Ok exactly where each of `length` bytes from the byte address `at` on is mapped with all these rights; else the
@@ -127,31 +131,16 @@ impl Pages {
             (first_fault executable self.now at 2)
             (little_number 2 (bytes_at self.now at 2)) }
     {
-        let place = (at % 4096) as usize;
-        if place + 2 <= 4096 {
-            if let Some(bytes) = bytes_of(rows(&self.tables), at / 4096, EXECUTABLE) {
-                return Ok(half_at(bytes, place));
-            }
-        }
-        self.fetch_apart(at)
+        fetch_from(rows(&self.tables), at)
     }
 
-    /// The same for bytes that lie in two pages, or that can't be executed.
-    #[cold]
-    #[inline(never)]
-    fn fetch_apart(&self, at: u64) -> Result<u16, PageFault>
-        ensures { result ≡ answer_or
-            (first_fault executable self.now at 2)
-            (little_number 2 (bytes_at self.now at 2)) }
+    /// The ranges that can be executed, with their bytes, copied. Only memory may be wanting. It costs by the pages that can be
+    /// executed, and by the pages of the tables that have some.
+    ///
+    /// References: mmap(2) (`PROT_EXEC`).
+    pub fn code(&self, alloc: Global) -> Result<Code, AllocError>
+        ensures { IfOk result (λ code. code ≡ code_of self.now) }
     {
-        let tables = rows(&self.tables);
-        let mut buffer = [0u8; 2];
-        match allows(tables, at, 2, EXECUTABLE) {
-            Err(fault) => Err(fault),
-            Ok(()) => {
-                copy_from(tables, at, &mut buffer, EXECUTABLE);
-                Ok(half_at(&buffer, 0))
-            }
-        }
+        code_of(alloc, rows(&self.tables))
     }
 }

@@ -8,9 +8,10 @@ ghost use Rattle.guest_pages.specs.Operations.{placed, protected, stored_pages, 
 
 use super::Pages;
 use crate::fault::MapFault;
+use crate::finding::unmapped;
 use crate::fresh::stored_of;
 use crate::limits::MOST_PAGES;
-use crate::looking::{rows, unmapped};
+use crate::looking::rows;
 use crate::placing::{clear_pages, map_pages, protect_pages, wanted_pages};
 use crate::rights::{CHANGEABLE, Rights};
 use std::alloc::Global;
@@ -93,7 +94,8 @@ impl Pages {
     /// The `count` pages from the byte address `at` on get these rights. A page that loses all rights loses its bytes, and
     /// one that gains a right from none is zero. The range is of whole pages, below 2^38. It is refused with the least
     /// address that is not mapped, if there is one, then where more than 65,536 pages with a right would be stored, and
-    /// where memory is wanting; then nothing changes. It costs by the pages of the range.
+    /// where memory is wanting; then nothing changes. It costs by the pages of the range that are stored before or after,
+    /// and by a bit for each other.
     ///
     /// References: mprotect(2).
     pub fn protect(
@@ -115,7 +117,7 @@ impl Pages {
             → 65536 < stored_pages (protected at (4096 * count) rights self.old)
             → result ≡ Err (PagesFull (stored_pages (protected at (4096 * count) rights self.old))) }
     {
-        match unmapped(rows(&self.tables), at, 4096 * count) {
+        match unmapped(rows(&self.tables), at, count) {
             Some(address) => Err(MapFault::NotMapped(address)),
             None => self.protect_mapped(alloc, at, count, rights),
         }

@@ -7,4 +7,4 @@ pub invariant_of-self : goal.invariant_of-self
 invariant_of-self c = rw c.hold.ensures (held_whole c.self.inside.nodes c.self.inside.next c.self.inside.count c.self.inside.bytes c.args.node c.self.invariant)
 
 pub returns-clause-held : goal.returns-clause-held
-returns-clause-held c = rw c.hold.ensures (is_held_in c.args.self.now c.self.inside.nodes c.self.inside.next c.args.node c.self.view_is c.requires)
+returns-clause-held c = rw c.hold.ensures (is_held_in c.args.self.now c.self.inside.nodes c.self.inside.next c.self.inside.count c.self.inside.bytes c.args.node c.self.view_is c.self.invariant c.requires)

@@ -5,6 +5,7 @@ use Rattle.file_tree.specs.Nodes.{Tree}
 use Rattle.file_tree.specs.Answers.{Answers}
 use Rattle.file_tree.proofs.WalkFacts.{made_spot, made_err}
 use Rattle.file_tree.proofs.PathLaws.{leads_found}
+use Rattle.file_tree.proofs.SpotFacts.{is_named}
 use Rattle.file_tree.proofs.tree.Tree.make.Goals as goal
 
 pub returns-in-Ok-clause-answers : goal.returns-in-Ok-clause-answers
@@ -20,3 +21,7 @@ pub returns-in-Ok-clause-found : goal.returns-in-Ok-clause-found
 returns-in-Ok-clause-found c =
     leads_found c.make_at.result c.args.kind c.is_refused_slash.result c.args.from c.args.path.now c.args.self.now c.make_at.new.self (record { at = c.in-Ok.at; name = c.in-Ok.name.now })
     c.make_at.ensures.answers c.make_at.ensures.leads c.in-Ok.ensures.spot c.is_refused_slash.ensures
+
+pub returns-in-Ok-clause-named : goal.returns-in-Ok-clause-named
+returns-in-Ok-clause-named c =
+    is_named c.args.from c.args.path.now c.args.self.now c.make_at.new.self (record { at = c.in-Ok.at; name = c.in-Ok.name.now }) c.make_at.result c.in-Ok.ensures.spot c.make_at.ensures.named

@@ -1,6 +1,6 @@
 -- The tree stays whole without the entry.
 use Rattle.file_tree.proofs.CallFacts.{taken_whole}
-use Rattle.file_tree.proofs.StayFacts.{is_taken}
+use Rattle.file_tree.proofs.TakenFacts.{is_taken, has_lost}
 use Rattle.file_tree.proofs.PathLaws.{is_lost}
 use Rattle.file_tree.proofs.tree.Tree.take.Goals as goal
 
@@ -25,3 +25,8 @@ pub returns-clause-loses : goal.returns-clause-loses
 returns-clause-loses c =
     rw c.unlink.ensures
     (is_lost c.args.self.now c.self.inside.nodes c.self.inside.next c.self.inside.count c.self.inside.bytes c.args.at c.args.inode c.args.name.now c.self.view_is c.self.invariant c.requires.entry c.requires.can)
+
+pub returns-clause-unnamed : goal.returns-clause-unnamed
+returns-clause-unnamed c =
+    rw c.unlink.ensures
+    (has_lost c.args.self.now c.self.inside.nodes c.self.inside.next c.self.inside.count c.self.inside.bytes c.args.at c.args.inode c.args.name.now c.self.view_is c.self.invariant c.requires.entry c.requires.can)

@@ -30,4 +30,5 @@ returns-in-Err-clause-answers c = (
 
 pub returns-in-Ok-resize-clause-filled : goal.returns-in-Ok-resize-clause-filled
 returns-in-Ok-resize-clause-filled c =
-    rw c.in-Ok-resize.ensures.ok (file_is_filled c.args.self.now c.self.inside.nodes c.self.inside.next c.args.file (resized c.args.size (file_bytes c.self.inside.nodes c.args.file)) c.self.view_is (kind_there c.args.self.now c.args.file _ c.requires))
+    rw c.in-Ok-resize.ensures.ok (file_is_filled c.args.self.now c.self.inside.nodes c.self.inside.next c.self.inside.count c.in-Ok.total c.args.file (resized c.args.size (file_bytes c.self.inside.nodes c.args.file)) c.self.view_is (fills c.args.self.now c.self.inside.nodes c.self.inside.next c.self.inside.count c.self.inside.bytes c.args.file (resized c.args.size (file_bytes c.self.inside.nodes c.args.file)) c.cut_size.result (Ok c.in-Ok.total) c.self.view_is c.self.invariant
+    (c.cut_size.ensures.size ∙ ap fitting (sym (length_resized c.args.size (file_bytes c.self.inside.nodes c.args.file)))) c.requires c.in-Ok.ensures).1 (kind_there c.args.self.now c.args.file _ c.requires))

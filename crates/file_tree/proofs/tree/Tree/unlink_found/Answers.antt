@@ -1,5 +1,6 @@
 -- What is taken away is what the walk found.
 use Rattle.std.proofs.Common.{Some, None, sym, refl}
+use Rattle.file_tree.proofs.SpotFacts.{is_unnamed}
 use Rattle.file_tree.proofs.WalkFacts.{unlinked_by, unlinked_spot, takeable, taken_entry}
 use Rattle.file_tree.proofs.tree.Tree.unlink_found.Goals as goal
 
@@ -22,3 +23,7 @@ returns-in-Err-clause-answers c = (unlinked_spot c.args.from c.args.path.now c.a
 
 pub returns-in-None-clause-gone : goal.returns-in-None-clause-gone
 returns-in-None-clause-gone c = c.take.ensures.loses c.args.from c.args.path.now c.in-Ok.ensures.spot
+
+pub returns-in-None-clause-unnamed : goal.returns-in-None-clause-unnamed
+returns-in-None-clause-unnamed c =
+    is_unnamed c.args.from c.args.path.now c.args.inode c.args.self.now c.take.new.self (record { at = c.in-Ok.at; name = c.in-Ok.name.now }) c.in-Ok.ensures.spot c.take.ensures.unnamed

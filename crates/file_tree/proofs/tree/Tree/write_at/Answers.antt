@@ -33,4 +33,5 @@ overwrite-requires c = write_end _ _ _ c.in-Ok.total c.size.result c.args.offset
 
 pub returns-in-Ok-overwrite-clause-filled : goal.returns-in-Ok-overwrite-clause-filled
 returns-in-Ok-overwrite-clause-filled c =
-    rw c.in-Ok-overwrite.ensures.ok (file_is_filled c.args.self.now c.self.inside.nodes c.self.inside.next c.args.file (overwritten c.args.offset c.args.bytes.now (file_bytes c.self.inside.nodes c.args.file)) c.self.view_is (kind_there c.args.self.now c.args.file _ c.requires))
+    rw c.in-Ok-overwrite.ensures.ok (file_is_filled c.args.self.now c.self.inside.nodes c.self.inside.next c.self.inside.count c.in-Ok.total c.args.file (overwritten c.args.offset c.args.bytes.now (file_bytes c.self.inside.nodes c.args.file)) c.self.view_is (fills c.args.self.now c.self.inside.nodes c.self.inside.next c.self.inside.count c.self.inside.bytes c.args.file (overwritten c.args.offset c.args.bytes.now (file_bytes c.self.inside.nodes c.args.file)) c.written_size-size.result (Ok c.in-Ok.total) c.self.view_is c.self.invariant
+    (c.written_size-size.ensures.size ∙ ap fitting (rw c.size.ensures (sym (length_written c.args.offset c.args.bytes.now (file_bytes c.self.inside.nodes c.args.file))))) c.requires c.in-Ok.ensures).1 (kind_there c.args.self.now c.args.file _ c.requires))
