@@ -1,17 +1,17 @@
 //! The top call of `solo`.
 
-ghost use Rattle.std.specs.Prelude.{◌≡◌, ◌≤◌, ◌<◌, [], map, length, Ok, Err, IfOk, IfErr, MatchResult, OnOk};
+ghost use Rattle.std.specs.Prelude.{◌≡◌, ◌≢◌, ◌≤◌, ◌<◌, [], map, length, Ok, Err, IfOk, IfErr, MatchResult, OnOk};
 ghost use Rattle.std.specs.String.{string_bytes};
 ghost use Rattle.emu_top.specs.Sending.{AreUnread, sent};
 ghost use Rattle.emu_top.specs.Complete.{IsRunnable, NoneRose, NothingFailed, ReadsStill};
 ghost use Rattle.elf_file.specs.Reading.{image};
 ghost use Rattle.guest_core.specs.Kept.{Keeps};
 ghost use Rattle.guest_core.specs.Start.{program_of, Starts};
-ghost use Rattle.emu_top.specs.Notes.{end_line, TellsEnd, TellsFault, EndsUntold};
+ghost use Rattle.emu_top.specs.Notes.{cause_line, end_line, TellsEnd, TellsFault, EndsUntold, Tries};
 ghost use Rattle.emu_top.specs.Solo.{CoreFinishes, CoreStops, Finishes, IsCaused, Faults, fault_status, halt_cause, start_cause, status_of as end_status};
 ghost use Rattle.emu_top.specs.Journal.{IsLawful};
 ghost use Rattle.emu_top.specs.Running.{OneLives};
-ghost use Rattle.emu_top.specs.declared.cause.Cause.TheVariants.{Memory as memory};
+ghost use Rattle.emu_top.specs.declared.cause.Cause.TheVariants.{Memory as memory, Usage as usage};
 
 use crate::cause::{Cause, Part};
 use crate::device::Device;
@@ -156,6 +156,21 @@ fn tell_fault<K: Sink, D: Device>(alloc: Global, fault: TopFault<D>, notes: &mut
             fault
         }
         Err(_) => forgotten(fault),
+    }
+}
+
+/// Refuses a command line whose first wrong word has this index, and gives the status. `solo_top` does so itself for words
+/// that are texts; this is for a word that isn't UTF-8.
+pub fn refuse_words<K: Sink>(alloc: Global, word: usize, notes: &mut K) -> u8
+    ensures told { result ≡ 64 → Tries K.held K.failed_writes (cause_line (usage word)) notes.old notes.new }
+    ensures forgotten { result ≢ 64 → (result ≡ 70) × (notes.new ≡ notes.old) }
+{
+    match line_of_cause(alloc, &Cause::Usage { word }) {
+        Ok(line) => {
+            let _ = notes.put(line.as_str().as_bytes());
+            64
+        }
+        Err(_) => 70,
     }
 }
 

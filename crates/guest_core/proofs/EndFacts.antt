@@ -1,8 +1,8 @@
 -- Where a file's segments end.
-use Rattle.std.proofs.Common.{◌≡◌, ◌≤◌, ◌+◌, ℕ, Bool, true, false, cond, List, [], ◌∷◌, map, max, subst, sym, arith}
+use Rattle.std.proofs.Common.{◌≤◌, ◌+◌, ℕ, Bool, true, false, cond, List, [], ◌∷◌, map, max, subst, sym, arith}
 use Rattle.elf_file.specs.declared.image.Elf.{Elf}
 use Rattle.elf_file.specs.declared.loaded.Segment.{Segment}
-use Rattle.elf_file.specs.Segments.{SegmentImage, byte_end, has_byte, top_of}
+use Rattle.elf_file.specs.Segments.{byte_end, has_byte, top_of}
 use Rattle.elf_file.specs.Views.{segment_image}
 use Rattle.guest_pages.specs.Limits.{maps_end}
 

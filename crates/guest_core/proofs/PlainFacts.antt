@@ -1,5 +1,5 @@
 -- A plain instruction is an event, whatever other threads there are, and leaves the thread ready for the next.
-use Rattle.std.proofs.Common.{◌≡◌, ℕ, cond, List, [], set, Option, Some, None, refl, ap, sym, subst, ◌∙◌, ◌+◌, ◌<◌, zero, suc, ◌∷◌, replicate, arith}
+use Rattle.std.proofs.Common.{◌≡◌, ℕ, List, [], set, Option, Some, None, refl, ap, sym, subst, ◌∙◌, ◌<◌, zero, suc, ◌∷◌, replicate, arith}
 use Rattle.guest_core.specs.declared.ends.End.{End}
 use Rattle.guest_core.specs.declared.events.Event.TheVariants.{Step}
 use Rattle.guest_core.specs.declared.thread.Thread as code
@@ -18,8 +18,9 @@ use Rattle.host_calls.specs.declared.host.Host.{Host}
 use Rattle.host_calls.specs.Host.{shared_of}
 use Rattle.host_calls.specs.Marks.{Marked, first_new, noted_of, still_noted}
 use Rattle.host_calls.specs.Queue.{due}
-use Rattle.host_calls.specs.Shared.{later}
+use Rattle.host_calls.specs.Shared.{clock_after, later}
 use Rattle.isa_step.specs.Instruction.{IsPlain, InstructionOutcome, Runs, Calls, Faults}
+use Rattle.isa_step.specs.Running.{PlainRun as PlainRunOf}
 use Rattle.guest_core.proofs.AheadFacts.{is_ready, ready_is, all_more, run_more}
 use Rattle.guest_core.proofs.RowFits.{execute_after}
 use Rattle.guest_core.proofs.StateFacts.{StandsAt, found_at, machine_of, members_of, now_of, step_is, rise_set, stands_set}
@@ -63,13 +64,27 @@ goes_on_of host threads i was end rise stands goes =
 
 -- ---- many of them
 
-pub run_stays : (count : ℕ) (old middle next : Host) (was between new : code.Thread) → PlainRun count old was middle between → new ≡ between → next ≡ middle → PlainRun count old was next new
-run_stays count old middle next was between new ran same stays =
-    subst (λ (t : code.Thread). PlainRun count old was next t) (sym same) (subst (λ (h : Host). PlainRun count old was h between) (sym stays) ran)
+-- the host and the thread after so many plain instructions
+abbrev pub host_after : ℕ → Host → List Range → List Held → Host
+host_after count old memory held = record old { pages = memory; held = held; clock = clock_after count old.clock }
 
-pub run_more_plain : (count : ℕ) (old middle next : Host) (was between new : code.Thread) → PlainRun count old was middle between → MadePlain middle between next new → PlainRun (count + 1) old was next new
-run_more_plain count old middle next was between new ran made =
-    subst (λ (n : ℕ). PlainRun n old was next new) (suc-eq-add-one count) (middle, between, ran, made)
+pub plain_run : (count : ℕ) (old : Host) (was : code.Thread) (regs : Registers) (memory : List Range) (held : List Held) → PlainRunOf count was.id was.regs old.pages old.held regs memory held → PlainRun count old was (host_after count old memory held) (record was { regs = regs })
+unfolding clock_after
+plain_run zero old was regs memory held (same, stays, keeps) = rw (same, stays, keeps) (refl, refl)
+plain_run (suc count) old was regs memory held (between, middle, now, ran, made) = (
+  host_after count old middle now,
+  record was { regs = between },
+  plain_run count old was between middle now ran,
+  record {
+    regs = regs;
+    memory = memory;
+    held = held;
+    runs = made;
+    new_is = refl;
+    shared_is = refl;
+    pending = refl;
+  },
+)
 
 set_same : (threads : List code.Thread) (i : ℕ) (was : code.Thread) → StandsAt i was threads → set threads i was ≡ threads
 set_same [] i was stands = absurd stands

@@ -1,6 +1,6 @@
 -- What is known where a row is the first that fits: one case a row, over contexts that are written out. All that holds of
 -- every row is proved from such cases.
-use Rattle.std.proofs.Common.{◌≡◌, ℕ, Bool, true, false, cond, ℤ, List, [], ◌∷◌, Option, Some, None, refl, subst}
+use Rattle.std.proofs.Common.{◌≡◌, ℕ, Bool, true, false, ℤ, List, [], ◌∷◌, Option, Some, None, refl, subst}
 use Rattle.std.specs.Option.{option_map}
 use Rattle.guest_core.specs.declared.places.Place.{Place}
 use Rattle.guest_core.specs.declared.places.Place.TheVariants.{Loop, Start, Window, Done}

@@ -6,7 +6,7 @@ use Rattle.host_calls.specs.declared.queue.Instance.{Instance}
 use Rattle.host_calls.specs.Marks.{first_new}
 use Rattle.host_calls.specs.Queue.{first_of, is_empty}
 use Rattle.guest_core.specs.Machine.{Thread}
-use Rattle.guest_core.specs.Rows.{Row, Note, Take, ClearFlag, Execute, Check, Enter, Return, IsSteady, RowIsSteady, check_row, checked, clear_row, done, due_now, enter_row, entered, execute_row, executed, flag_cleared, note_row, noted, return_row, returned, row_of, take_row}
+use Rattle.guest_core.specs.Rows.{Row, Note, Take, ClearFlag, Execute, Check, Enter, Return, IsSteady, RowIsSteady, check_row, checked, clear_row, done, due_now, enter_row, entered, execute_row, executed, flag_cleared, note_row, return_row, returned, row_of, take_row}
 use Rattle.guest_core.specs.State.{NotesDue, TakesDue, row_after, settled_after}
 use Rattle.guest_core.specs.System.{After, Context}
 use Rattle.guest_core.proofs.AheadFacts.{ready_is}

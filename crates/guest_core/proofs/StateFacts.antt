@@ -18,7 +18,7 @@ use Rattle.host_calls.specs.declared.host.Host.{Host}
 use Rattle.host_calls.specs.Host.{shared_of}
 use Rattle.host_calls.specs.Marks.{Marked, OthersSettled, noted_of, still_noted}
 use Rattle.host_calls.specs.Queue.{due}
-use Rattle.host_calls.specs.Shared.{Shared, later, later_clock}
+use Rattle.host_calls.specs.Shared.{Shared, later_clock}
 use Rattle.isa_exec.specs.Registers.{Registers}
 use Rattle.guest_core.proofs.SystemFacts.{same_id}
 

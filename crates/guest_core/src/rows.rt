@@ -17,7 +17,7 @@ use crate::ends::End;
 use crate::places::Place;
 use crate::thread::Thread;
 use host_calls::{Host, Instance};
-use isa_step::{Decoder, Fault, Made, make_instruction, make_plain};
+use isa_step::{Decoder, Fault, Made, make_instruction, run_plain};
 use std::alloc::AllocError;
 
 impl Thread {
@@ -136,34 +136,8 @@ impl Thread {
         }
     }
 
-    /// Makes the next instruction, if it neither asks for a call nor faults; else all stays.
-    #[inline(always)]
-    pub fn go_on(&mut self, host: &mut Host, decoder: &mut Decoder) -> bool
-        requires apart { IsApart host.old.pages }
-        requires known { All (IsKnown host.old.pages) decoder.old }
-        ensures made { result ≡ true → MadePlain host.old self.old host.new self.new }
-        ensures stays { result ≡ false → (self.new ≡ self.old) × (host.new ≡ host.old) }
-        ensures plain { result ≡ true → IsPlain (instruction_of (context host.old self.old)) }
-        ensures stops { result ≡ false → IsPlain (instruction_of (context host.old self.old)) → ⊥ }
-        ensures outputs { host.new.outputs ≡ host.old.outputs }
-        ensures code { KeepsCode host.old.pages host.new.pages }
-        ensures apart { IsApart host.new.pages }
-        ensures known { All (IsKnown host.new.pages) decoder.new }
-    {
-        if !make_plain(
-            self.id,
-            &mut self.regs,
-            &mut host.pages,
-            &mut host.held,
-            decoder,
-        ) {
-            return false;
-        }
-        host.tick();
-        true
-    }
-
-    /// Makes instructions, at most so many, up to the first that asks for a call or faults, and tells how many it made.
+    /// Makes instructions, at most so many, up to the first that asks for a call or faults, and tells how many it made. Time
+    /// goes on for all of them at once, since no instruction reads it.
     pub fn go_ahead(&mut self, host: &mut Host, decoder: &mut Decoder, limit: u32) -> u32
         requires apart { IsApart host.old.pages }
         requires known { All (IsKnown host.old.pages) decoder.old }
@@ -175,12 +149,16 @@ impl Thread {
         ensures apart { IsApart host.new.pages }
         ensures known { All (IsKnown host.new.pages) decoder.new }
     {
-        for made in 0..limit {
-            if !self.go_on(host, decoder) {
-                return made;
-            }
-        }
-        limit
+        let made = run_plain(
+            self.id,
+            &mut self.regs,
+            &mut host.pages,
+            &mut host.held,
+            decoder,
+            limit,
+        );
+        host.pass(made);
+        made
     }
 
     /// The host is entered.

@@ -1,5 +1,6 @@
 pub mod ByteFacts
 pub mod CallsOwe
+pub mod ClockFacts
 pub mod MarkFacts
 pub mod Places
 pub mod Shapes

@@ -1,7 +1,7 @@
 -- What a system has beside its threads: a Linux process has it, and calls change it. A field is the record of its owner.
 -- Source: signal(7), open(2) and the manual pages of the calls; virtual time, which goes on by 100 ns at a step, is the
 -- project's own.
-use Rattle.std.specs.Prelude.{ℕ, ◌+◌, ◌-◌, ◌^◌, ◌++◌, [], min, List, slice_set, slice_index_or}
+use Rattle.std.specs.Prelude.{ℕ, zero, suc, ◌+◌, ◌-◌, ◌^◌, ◌++◌, [], min, List, slice_set, slice_index_or}
 use Rattle.guest_pages.specs.Ranges.{Range}
 use Rattle.word_memory.specs.declared.reservations.Held.{Held}
 use Rattle.host_calls.specs.Queue.{Queue}
@@ -35,6 +35,11 @@ with_output device bytes outputs = slice_set outputs device (slice_index_or outp
 -- time goes on by 100 ns, at most to its type's end
 abbrev pub later_clock : ℕ → ℕ
 later_clock clock = min (clock + 100) (2 ^ 64 - 1)
+
+-- so many times
+unfoldable pub clock_after : ℕ → ℕ → ℕ
+clock_after zero clock = clock
+clock_after (suc count) clock = later_clock (clock_after count clock)
 
 abbrev pub later : Shared → Shared
 later shared = record shared { clock = later_clock shared.clock }

@@ -1,5 +1,5 @@
 ghost use Rattle.std.specs.Prelude.{◌≡◌};
-ghost use Rattle.host_calls.specs.Shared.{later_clock};
+ghost use Rattle.host_calls.specs.Shared.{clock_after, later_clock};
 
 use crate::breaks::Break;
 use crate::outputs::Outputs;
@@ -27,5 +27,13 @@ impl Host {
         ensures { self.new ≡ record self.old { clock = later_clock self.old.clock } }
     {
         self.clock = self.clock.saturating_add(100);
+    }
+
+    /// Time goes on so many times, at once.
+    #[tactic(auto, using(crate::proofs::ClockFacts::clock_is))]
+    pub fn pass(&mut self, count: u32)
+        ensures { self.new ≡ record self.old { clock = clock_after count self.old.clock } }
+    {
+        self.clock = self.clock.saturating_add(100 * u64::from(count));
     }
 }

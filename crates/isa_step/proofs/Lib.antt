@@ -1,4 +1,5 @@
 pub mod CallFacts
 pub mod EffectFacts
 pub mod KnownFacts
+pub mod RunFacts
 pub mod StayFacts

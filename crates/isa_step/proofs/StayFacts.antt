@@ -7,7 +7,6 @@ use Rattle.isa_decode.specs.declared.instruction.Width.{Width}
 use Rattle.isa_decode.specs.declared.instruction.Width.TheVariants.{One, Two, Four, Eight}
 use Rattle.isa_exec.specs.Registers.{Registers, register}
 use Rattle.guest_pages.specs.Apart.{IsApart, Stays}
-use Rattle.guest_pages.specs.Operations.{written}
 use Rattle.guest_pages.specs.declared.rights.Rights.{Rights}
 use Rattle.guest_pages.specs.declared.fault.PageFault.{PageFault}
 use Rattle.guest_pages.specs.Faults.{changeable, first_fault, writable}
@@ -19,7 +18,7 @@ use Rattle.word_memory.specs.declared.reservations.Held.{Held}
 use Rattle.word_memory.specs.Accesses.{conditional_at, page_fault, with_word, word_fault}
 use Rattle.word_memory.specs.Atomics.{size_of}
 use Rattle.word_memory.proofs.FaultFacts.{writable_too}
-use Rattle.isa_step.specs.Instruction.{Calls, Faults, Found, InstructionOutcome, Is, IsNot, Runs, combines, executed, found, instruction, loads, of_found, reserves, runs_unless, runs_unless_word, store_size, stores, stores_conditionally}
+use Rattle.isa_step.specs.Instruction.{Found, Is, IsNot, Runs, combines, executed, found, instruction, loads, of_found, reserves, runs_unless, runs_unless_word, store_size, stores, stores_conditionally}
 
 pure_stays : (regs after : Registers) (memory left : List Range) (held other : List Held) → IsApart memory → Runs regs memory held ≡ Runs after left other → Stays memory left
 pure_stays regs after memory left held other is same = same_stays memory left is (cc)

@@ -2,3 +2,4 @@ pub mod Effects
 pub mod Instruction
 pub mod Known
 pub mod Made
+pub mod Running

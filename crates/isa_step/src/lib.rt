@@ -8,10 +8,10 @@
 //!
 //! # What the layer above knows
 //!
-//! `make_instruction` makes exactly that. `make_plain` makes it where it neither asks for a call nor faults, and remembers
-//! what it found by its address in a `Decoder`: contracts see what is remembered as a list, each of which is the instruction
-//! at its address (`IsKnown`) as long as the code stays (`KeepsCode`). An instruction keeps the code where nothing can be
-//! both written and executed (`IsApart`).
+//! `make_instruction` makes exactly that. `run_plain` makes one after another (`PlainRun`), up to the first that asks for a
+//! call or faults, and remembers what it found by its address in a `Decoder`: contracts see what is remembered as a list,
+//! each of which is the instruction at its address (`IsKnown`) as long as the code stays (`KeepsCode`). An instruction keeps
+//! the code where nothing can be both written and executed (`IsApart`).
 //!
 //! No function takes memory but `Decoder::new`. Each takes constant time, but for the reservations of threads, which a store
 //! goes through while one stands.
@@ -29,12 +29,14 @@ mod fault;
 mod faults;
 mod finding;
 mod near;
+mod running;
 mod signal;
 
 pub use decoder::Decoder;
-pub use executing::{Made, make_instruction, make_plain};
+pub use executing::{Made, make_instruction};
 pub use fault::Fault;
 pub use finding::is_at_call;
+pub use running::run_plain;
 pub use signal::SigNo;
 
 #[cfg(test)]

@@ -1,4 +1,8 @@
+ghost use Rattle.std.specs.Prelude.{IfOk};
+ghost use Rattle.guest_pages.specs.Apart.{IsApart};
+
 use super::*;
+use crate::executing::make_plain;
 use guest_pages::{CHANGEABLE, NOTHING, Pages, READABLE, RUNNABLE, Width};
 use isa_exec::Regs;
 use std::alloc::Global;
@@ -160,6 +164,51 @@ fn a_decoder_remembers_what_it_found(rt: HostRuntime) -> Result<(), Fail> {
     let mut regs = Regs::starting_at(0x1_0000);
     assert!(rt; !is_at_call(&regs, &pages));
     assert!(rt; make_plain(THREAD, &mut regs, &mut pages, &mut held, &mut decoder));
+    assert_eq!(rt; regs.register(10), 1);
+    assert_eq!(rt; regs.pc(), 0x1_0004);
+    Ok(())
+}
+
+/// A word of code at 0x10000, and nothing else.
+fn code(alloc: Global, word: u32) -> Result<Pages, Fail>
+    ensures { IfOk result IsApart }
+{
+    let mut pages = Pages::new();
+    pages.map(alloc, 0x1_0000, 1, CHANGEABLE)?;
+    pages.store(0x1_0000, Width::Four, u64::from(word))?;
+    pages.protect(alloc, 0x1_0000, 1, RUNNABLE)?;
+    Ok(pages)
+}
+
+#[test]
+fn a_loop_goes_on_to_the_limit(rt: HostRuntime) -> Result<(), Fail> {
+    let alloc = rt.alloc();
+    // jal x0, 0
+    let mut pages = code(alloc, 0x0000_006F)?;
+    let mut held = Reservations::new(alloc);
+    let mut decoder = Decoder::new(alloc)?;
+    let mut regs = Regs::starting_at(0x1_0000);
+    assert_eq!(rt;
+        run_plain(THREAD, &mut regs, &mut pages, &mut held, &mut decoder, 1000),
+        1000
+    );
+    assert_eq!(rt; regs.pc(), 0x1_0000);
+    Ok(())
+}
+
+#[test]
+fn a_run_stops_in_front_of_a_fault(rt: HostRuntime) -> Result<(), Fail> {
+    let alloc = rt.alloc();
+    // addi x10, x10, 1
+    let mut pages = code(alloc, 0x0015_0513)?;
+    let mut held = Reservations::new(alloc);
+    let mut decoder = Decoder::new(alloc)?;
+    let mut regs = Regs::starting_at(0x1_0000);
+    // behind it stands a half word of zeros, which is no instruction
+    assert_eq!(rt;
+        run_plain(THREAD, &mut regs, &mut pages, &mut held, &mut decoder, 1000),
+        1
+    );
     assert_eq!(rt; regs.register(10), 1);
     assert_eq!(rt; regs.pc(), 0x1_0004);
     Ok(())

@@ -2,7 +2,7 @@ use Rattle.std.proofs.Common.{◌≡◌, ◌<◌, ℕ, length, List, Some, ap, g
 use Rattle.std.specs.Option.{option_map}
 use Rattle.guest_core.specs.declared.thread.Thread as code
 use Rattle.guest_core.specs.Kept.{IdsRise}
-use Rattle.guest_core.specs.Machine.{Machine, Thread}
+use Rattle.guest_core.specs.Machine.{Machine}
 use Rattle.guest_core.specs.State.{member_of, self_of}
 use Rattle.guest_core.specs.System.{found}
 use Rattle.guest_core.proofs.PlaceFacts.{rise_any}

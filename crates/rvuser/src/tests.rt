@@ -1,15 +1,15 @@
 ghost use Rattle.std.specs.Prelude.{◌≡◌, length, IfOk};
 
-use crate::cause::{Cause, Part};
-use crate::device::{Device, DeviceFailed};
-use crate::folder::{Entry as FolderEntry, Kind};
-use crate::journal::{Entry, Journal};
-use crate::memory_device::MemDevice;
-use crate::memory_folder::MemFolder;
-use crate::memory_sink::MemSink;
-use crate::sink::{Sink, SinkFailed};
-use crate::top::{Finished, TopFault, solo_top};
 use elf_file::ElfFault;
+use emu_top::cause::{Cause, Part};
+use emu_top::device::{Device, DeviceFailed};
+use emu_top::folder::{Entry as FolderEntry, Kind};
+use emu_top::journal::{Entry, Journal};
+use emu_top::memory_device::MemDevice;
+use emu_top::memory_folder::MemFolder;
+use emu_top::memory_sink::MemSink;
+use emu_top::sink::{Sink, SinkFailed};
+use emu_top::top::{Finished, TopFault, solo_top};
 use file_tree::Text;
 use guest_core::End;
 use le_fields::Bytes;
