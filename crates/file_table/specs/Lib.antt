@@ -1,0 +1,9 @@
+pub mod Descriptors
+pub mod Due
+pub mod Entries
+pub mod Flags
+pub mod Moving
+pub mod Opening
+pub mod Paths
+pub mod Sound
+pub mod State

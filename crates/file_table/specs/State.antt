@@ -1,0 +1,51 @@
+-- The descriptors of a process, what they name, its devices and its tree of files.
+-- Source: open(2): a descriptor names an open file description, and several may name one. The numbers of descriptions are
+-- the project's own.
+use Rattle.std.specs.Prelude.{ℕ, Bool, false, nat_lt, if◌then◌else◌, List, [], ◌∷◌, ◌++◌, length, get_or, set, Option, Some, None}
+use Rattle.file_tree.specs.Nodes.{Tree}
+use Rattle.file_table.specs.declared.state.Descriptor.{Descriptor}
+use Rattle.file_table.specs.declared.state.Description.{Description}
+use Rattle.file_table.specs.declared.state.Device.{Device}
+
+pub record Files : Type 0 where
+  pub tree : Tree
+  -- by their numbers
+  pub descriptors : List (Option Descriptor)
+  pub descriptions : List (Option Description)
+  pub devices : List Device
+
+-- what stands at a place
+abbrev pub at : {A : Type 0} → List (Option A) → ℕ → Option A
+at places number = get_or places number None
+
+-- something put at a place, or behind the last one
+abbrev pub put : {A : Type 0} → ℕ → A → List (Option A) → List (Option A)
+put number value places = if nat_lt number (length places) then set places number (Some value) else places ++ Some value ∷ []
+
+abbrev pub with_number : ℕ → Option Description → Option (ℕ × Description)
+with_number number None = None
+with_number number (Some description) = Some (number, description)
+
+abbrev pub opened_by : Files → Option Descriptor → Option (ℕ × Description)
+opened_by files None = None
+opened_by files (Some descriptor) = with_number descriptor.description (at files.descriptions descriptor.description)
+
+-- the description that a descriptor names, with its number
+unfoldable pub open_as : ℕ → Files → Option (ℕ × Description)
+open_as fd files = opened_by files (at files.descriptors fd)
+
+abbrev pub chosen : {A : Type 0} → Option (ℕ × Description) → A → (ℕ → Description → A) → A
+chosen None closed go = closed
+chosen (Some (number, description)) closed go = go number description
+
+-- what is done with it, and what where the descriptor isn't open
+abbrev pub with_open : {A : Type 0} → ℕ → Files → A → (ℕ → Description → A) → A
+with_open fd files closed go = chosen (open_as fd files) closed go
+
+abbrev pub output_of : Option Device → List ℕ
+output_of None = []
+output_of (Some device) = device.output
+
+abbrev pub lives_by : Option Device → Bool
+lives_by None = false
+lives_by (Some device) = device.live
