@@ -1,65 +1,28 @@
 use super::*;
+use elf_build::{EXECUTE, ElfHeader, ProgramHeader, READ, WRITE, file, zeros};
 use std::alloc::{AllocError, Global};
 use std::test::Fail;
 
-const EXECUTE: u32 = 1;
-
-const WRITE: u32 = 2;
-
-const READ: u32 = 4;
-
 const BASE: u64 = 0x20_0000_0000;
 
-/// What a file header says.
-#[derive(Clone, Copy)]
-struct Head {
-    kind: u16,
-    entry: u64,
-    table: u64,
-    count: u16,
-}
-
-/// What a program header says.
-#[derive(Clone, Copy)]
-struct Part {
-    kind: u32,
-    flags: u32,
-    offset: u64,
-    address: u64,
-    file_size: u64,
-    memory_size: u64,
-}
-
-/// A loaded segment without bytes from the file.
-fn zeros(flags: u32, address: u64, size: u64) -> Part {
-    Part {
-        kind: 1,
-        flags,
-        offset: 0,
-        address,
-        file_size: 0,
-        memory_size: size,
-    }
-}
-
 /// Of instructions.
-fn code(address: u64, size: u64) -> Part {
+fn code(address: u64, size: u64) -> ProgramHeader {
     zeros(READ | EXECUTE, address, size)
 }
 
 /// Read alone.
-fn constants(address: u64, size: u64) -> Part {
+fn constants(address: u64, size: u64) -> ProgramHeader {
     zeros(READ, address, size)
 }
 
 /// Read and written.
-fn variables(address: u64, size: u64) -> Part {
+fn variables(address: u64, size: u64) -> ProgramHeader {
     zeros(READ | WRITE, address, size)
 }
 
 /// A program header of a type that is passed over. The rest of it would be refused.
-fn note() -> Part {
-    Part {
+fn note() -> ProgramHeader {
+    ProgramHeader {
         kind: 4,
         flags: 7,
         offset: u64::MAX,
@@ -70,48 +33,14 @@ fn note() -> Part {
 }
 
 /// A program header of an interpreter.
-fn interpreter() -> Part {
-    Part { kind: 3, ..note() }
-}
-
-/// A file: its header, its program headers, and some bytes behind them.
-fn file(alloc: Global, head: Head, parts: &[Part], rest: &[u8]) -> Result<Vec<u8>, AllocError> {
-    let mut bytes = Vec::new(alloc);
-    bytes.extend_from_slice(&[0x7F, b'E', b'L', b'F', 2, 1, 1, 0, 0, 0, 0, 0, 0, 0, 0, 0])?;
-    bytes.extend_from_slice(&head.kind.to_le_bytes())?;
-    bytes.extend_from_slice(&[243, 0, 1, 0, 0, 0])?;
-    bytes.extend_from_slice(&head.entry.to_le_bytes())?;
-    bytes.extend_from_slice(&head.table.to_le_bytes())?;
-    bytes.extend_from_slice(&[0, 0, 0, 0, 0, 0, 0, 0, 0, 0, 0, 0, 64, 0, 56, 0])?;
-    bytes.extend_from_slice(&head.count.to_le_bytes())?;
-    bytes.extend_from_slice(&[64, 0, 0, 0, 0, 0])?;
-    for part in parts {
-        add_part(&mut bytes, *part)?;
-    }
-    bytes.extend_from_slice(rest)?;
-    Ok(bytes)
-}
-
-fn add_part(bytes: &mut Vec<u8>, part: Part) -> Result<(), AllocError> {
-    bytes.extend_from_slice(&part.kind.to_le_bytes())?;
-    bytes.extend_from_slice(&part.flags.to_le_bytes())?;
-    bytes.extend_from_slice(&part.offset.to_le_bytes())?;
-    bytes.extend_from_slice(&part.address.to_le_bytes())?;
-    bytes.extend_from_slice(&part.address.to_le_bytes())?;
-    bytes.extend_from_slice(&part.file_size.to_le_bytes())?;
-    bytes.extend_from_slice(&part.memory_size.to_le_bytes())?;
-    bytes.extend_from_slice(&[0, 0x10, 0, 0, 0, 0, 0, 0])
+fn interpreter() -> ProgramHeader {
+    ProgramHeader { kind: 3, ..note() }
 }
 
 /// A file of type 2 with one segment, of three bytes from the file and eight in memory, from 0x10000 on.
 fn small_file(alloc: Global) -> Result<Vec<u8>, AllocError> {
-    let head = Head {
-        kind: 2,
-        entry: 0x10002,
-        table: 64,
-        count: 1,
-    };
-    let part = Part {
+    let head = ElfHeader::new(2, 0x10002, 1);
+    let part = ProgramHeader {
         offset: 120,
         file_size: 3,
         ..code(0x10000, 8)
@@ -137,14 +66,9 @@ fn refusal(
     alloc: Global,
     kind: u16,
     entry: u64,
-    parts: [Part; 4],
+    parts: [ProgramHeader; 4],
 ) -> Result<Option<ElfFault>, AllocError> {
-    let head = Head {
-        kind,
-        entry,
-        table: 64,
-        count: 4,
-    };
+    let head = ElfHeader::new(kind, entry, 4);
     let bytes = file(alloc, head, &parts, &[0; 8])?;
     match read(alloc, &bytes) {
         Ok(_) => Ok(None),
@@ -251,11 +175,9 @@ fn a_file_that_ends_in_its_headers(rt: HostRuntime) -> Result<(), Fail> {
 
 #[test]
 fn a_header_alone(rt: HostRuntime) -> Result<(), Fail> {
-    let head = Head {
-        kind: 2,
-        entry: 0,
+    let head = ElfHeader {
         table: u64::MAX,
-        count: 0,
+        ..ElfHeader::new(2, 0, 0)
     };
     let mut bytes = file(rt.alloc(), head, &[], &[])?;
     assert_eq!(rt; bytes.len(), 64);
@@ -341,7 +263,7 @@ fn where_the_bytes_of_a_segment_stand_in_the_file(rt: HostRuntime) -> Result<(),
         (8, u64::MAX, u64::MAX, bad),
     ];
     for (offset, file_size, memory_size, fault) in table {
-        let part = Part {
+        let part = ProgramHeader {
             offset,
             file_size,
             ..variables(0x20000, memory_size)
@@ -361,7 +283,7 @@ fn where_the_bytes_of_a_segment_stand_in_the_file(rt: HostRuntime) -> Result<(),
 fn a_page_is_not_writable_and_executable(rt: HostRuntime) -> Result<(), Fail> {
     let clash = Some(ElfFault::WritableCode(1));
     let all = READ | WRITE | EXECUTE;
-    let table: [([Part; 4], Option<ElfFault>); 12] = [
+    let table: [([ProgramHeader; 4], Option<ElfFault>); 12] = [
         // one segment
         (
             [code(0x10000, 2), zeros(all, 0x20000, 1), note(), note()],
@@ -481,7 +403,7 @@ fn a_page_of_different_rights(rt: HostRuntime) -> Result<(), Fail> {
 
 #[test]
 fn segments_that_share_a_byte(rt: HostRuntime) -> Result<(), Fail> {
-    let table: [([Part; 4], Option<ElfFault>); 9] = [
+    let table: [([ProgramHeader; 4], Option<ElfFault>); 9] = [
         (
             [
                 code(0x10000, 0x1000),
@@ -567,7 +489,7 @@ fn segments_that_share_a_byte(rt: HostRuntime) -> Result<(), Fail> {
 fn the_first_of_two_faults(rt: HostRuntime) -> Result<(), Fail> {
     let bad = constants(0, 1);
     let both = zeros(7, 0x30000, 8);
-    let table: [([Part; 4], ElfFault); 9] = [
+    let table: [([ProgramHeader; 4], ElfFault); 9] = [
         // the headers in their order
         (
             [bad, interpreter(), note(), note()],
@@ -649,17 +571,12 @@ fn where_a_program_may_begin(rt: HostRuntime) -> Result<(), Fail> {
 
 #[test]
 fn the_base_is_added_to_each_address(rt: HostRuntime) -> Result<(), Fail> {
-    let whole = Part {
+    let whole = ProgramHeader {
         file_size: 176,
         ..code(0x1000, 0x2000)
     };
     for (kind, base) in [(2, 0), (3, BASE)] {
-        let head = Head {
-            kind,
-            entry: 0x1004,
-            table: 64,
-            count: 2,
-        };
+        let head = ElfHeader::new(kind, 0x1004, 2);
         let bytes = file(rt.alloc(), head, &[whole, variables(0x5000, 0x123)], &[])?;
         let elf = read(rt.alloc(), &bytes)?;
         assert_eq!(rt; elf.entry, base + 0x1004);
@@ -688,18 +605,13 @@ fn where_the_program_headers_stand_in_memory(rt: HostRuntime) -> Result<(), Fail
         (240, 0, 0, 0, 0),
     ];
     for (offset, size, third_offset, third_size, at) in table {
-        let head = Head {
-            kind: 2,
-            entry: 0x10000,
-            table: 64,
-            count: 3,
-        };
-        let second = Part {
+        let head = ElfHeader::new(2, 0x10000, 3);
+        let second = ProgramHeader {
             offset,
             file_size: size,
             ..constants(0x20000, 0x1000)
         };
-        let third = Part {
+        let third = ProgramHeader {
             offset: third_offset,
             file_size: third_size,
             ..constants(0x30000, 0x1000)
@@ -718,12 +630,7 @@ fn where_the_program_headers_stand_in_memory(rt: HostRuntime) -> Result<(), Fail
 
 #[test]
 fn the_top_is_that_of_the_highest_byte(rt: HostRuntime) -> Result<(), Fail> {
-    let head = Head {
-        kind: 2,
-        entry: 0x30000,
-        table: 64,
-        count: 4,
-    };
+    let head = ElfHeader::new(2, 0x30000, 4);
     // the last is not the highest, and the highest has no byte
     let parts = [
         constants(0x20000, 8),
@@ -740,12 +647,7 @@ fn the_top_is_that_of_the_highest_byte(rt: HostRuntime) -> Result<(), Fail> {
 
 #[test]
 fn the_rights_are_three_bits(rt: HostRuntime) -> Result<(), Fail> {
-    let head = Head {
-        kind: 2,
-        entry: 0x10000,
-        table: 64,
-        count: 2,
-    };
+    let head = ElfHeader::new(2, 0x10000, 2);
     let parts = [
         zeros(0xFFFF_FFF5, 0x10000, 2),
         zeros(0x8000_0006, 0x20000, 2),
@@ -760,18 +662,12 @@ fn the_rights_are_three_bits(rt: HostRuntime) -> Result<(), Fail> {
 
 /// A file of as many program headers as there can be: one segment of code, and variables in a page each, the last in this.
 fn greatest_file(alloc: Global, last: u64) -> Result<Vec<u8>, AllocError> {
-    let head = Head {
-        kind: 2,
-        entry: 0x10000,
-        table: 64,
-        count: 65_535,
-    };
-    let mut bytes = file(alloc, head, &[code(0x10000, 0x100)], &[])?;
+    let mut parts = vec![in alloc; code(0x10000, 0x100); 1]?;
     for index in 1..65_534u64 {
-        add_part(&mut bytes, variables(0x10000 + 0x1000 * index, 0x100))?;
+        parts.push(variables(0x10000 + 0x1000 * index, 0x100))?;
     }
-    add_part(&mut bytes, variables(last, 0x100))?;
-    Ok(bytes)
+    parts.push(variables(last, 0x100))?;
+    file(alloc, ElfHeader::new(2, 0x10000, 65_535), &parts, &[])
 }
 
 #[test]

@@ -12,14 +12,18 @@ use Rattle.guest_pages.specs.Limits.{most_stack_bytes, most_pages}
 use Rattle.emu_top.specs.declared.cause.Cause.{Cause}
 use Rattle.emu_top.specs.declared.cause.Cause.TheVariants as causes
 use Rattle.emu_top.specs.declared.cause.Part.TheVariants as parts
-use Rattle.emu_top.specs.declared.folder.Entry.{Entry}
-use Rattle.emu_top.specs.declared.folder.Listed.{Listed}
-use Rattle.emu_top.specs.Files.{listed, IsFileOf}
+use Rattle.image_store.specs.declared.folder.Entry.{Entry}
+use Rattle.image_store.specs.declared.folder.Listed.{Listed}
+use Rattle.image_store.specs.Files.{listed, IsFileOf}
 use Rattle.emu_top.specs.Journal.{History}
-use Rattle.emu_top.specs.Notes.{TellsFault}
-use Rattle.emu_top.specs.Solo.{HasProgram, IsCaused, Faults, args_of, launched}
+use Rattle.emu_top.specs.Causes.{Step, AtLoading, Anywhere, Faults, ReadsStill, StillAt, Stops, TellsFault, row_of, tabled}
+use Rattle.emu_top.specs.Loading.{load_fault}
+use Rattle.image_store.specs.declared.folder.FolderError.{FolderError}
+use Rattle.image_store.specs.declared.folder.FolderError.TheVariants as errors
+use Rattle.emu_top.specs.declared.prepare.LoadFault.{LoadFault}
+use Rattle.emu_top.specs.Solo.{HasProgram, args_of, launched}
 use Rattle.emu_top.proofs.TopFacts.{faults}
-use Rattle.emu_top.specs.Complete.{Starts, Names, IsRunnable, NoneRose, ReadsStill}
+use Rattle.emu_top.specs.Complete.{Starts, Names, IsRunnable, NoneRose}
 
 -- the words ask for one thing
 same_asked : (words : List (List ℕ)) (one other : Asked) → IsAsked words one → IsAsked words other → one ≡ other
@@ -53,7 +57,8 @@ only_memory held writes told note_writes entries reads_before reads_after words 
     absurd (not_accepted IsAccepted words word faults.0.0 (names.asks.0, names.asks.1))
 only_memory held writes told note_writes entries reads_before reads_after words before notes_before notes_after (causes.NoProgram program) journal after names none faults =
     let why = faults.0.0 in
-    absurd (why.3.2 (subst (HasProgram why.3.0) why.2 (has entries words why.0 why.3.0 names why.1 why.3.1)))
+    let hasnt = why.2.1 in
+    absurd (hasnt.2 (has entries words why.0 hasnt.0 names why.1 hasnt.1))
 only_memory held writes told note_writes entries reads_before reads_after words before notes_before notes_after (causes.Elf fault) journal after names none faults =
     let why = faults.0.0 in
     absurd (is_read why.0 why.1 (starts entries words why.0 why.1 names why.2 why.3.reads) fault why.4)
@@ -62,23 +67,23 @@ only_memory held writes told note_writes entries reads_before reads_after words 
     let prepared = why.2 in
     let fit = fits why.0 prepared.bytes why.1 (starts entries words why.0 prepared.bytes names prepared.asks prepared.found.reads) prepared.elf_is in
     let few : stack_size (args_of why.0) why.0.env ≤ most_stack_bytes = fit.stack in
-    let more : most_stack_bytes < stack_size (args_of why.0) why.0.env = why.4 in
+    let more : most_stack_bytes < stack_size (args_of why.0) why.0.env = why.3.1 in
     absurd (omega arith)
 only_memory held writes told note_writes entries reads_before reads_after words before notes_before notes_after (causes.PagesFull wanted) journal after names none faults =
     let why = faults.0.0 in
     let prepared = why.2 in
     let fit = fits why.0 prepared.bytes why.1 (starts entries words why.0 prepared.bytes names prepared.asks prepared.found.reads) prepared.elf_is in
     let few : wanted_pages why.1 ≤ most_pages = fit.pages in
-    let more : most_pages < wanted_pages why.1 = why.4 in
+    let more : most_pages < wanted_pages why.1 = why.3.1 in
     absurd (omega arith)
 only_memory held writes told note_writes entries reads_before reads_after words before notes_before notes_after (causes.ReadFault parts.Folder) journal after names none faults =
-    absurd (none.reads faults.0.0.1)
+    absurd (none.reads faults.0.0.2)
 only_memory held writes told note_writes entries reads_before reads_after words before notes_before notes_after (causes.ReadFault (parts.Device device)) journal after names none faults =
     absurd faults.0.0
 only_memory held writes told note_writes entries reads_before reads_after words before notes_before notes_after (causes.ReadFault parts.Notes) journal after names none faults =
     absurd faults.0.0
 only_memory held writes told note_writes entries reads_before reads_after words before notes_before notes_after (causes.WriteFault parts.Folder) journal after names none faults =
-    absurd faults.0
+    absurd faults.0.0
 only_memory held writes told note_writes entries reads_before reads_after words before notes_before notes_after (causes.WriteFault (parts.Device device)) journal after names none faults =
     absurd (none.devices device faults.0.rose)
 only_memory held writes told note_writes entries reads_before reads_after words before notes_before notes_after (causes.WriteFault parts.Notes) journal after names none faults =
@@ -93,35 +98,30 @@ complete held writes told note_writes (Some entries) reads_before reads_after wo
     only_memory held writes told note_writes entries reads_before reads_after words before notes_before notes_after cause journal after names none faults
 
 -- the same of a fault of a run whose line was tried
-pub complete_told : {D K : Type 0} (held : D → Option (List ℕ)) (writes : D → ℕ) (told : K → Option (List ℕ)) (note_writes : K → ℕ) (tree : Option (List Entry)) (reads_before reads_after : ℕ) (words : List (List ℕ)) (before : List D) (notes_before notes_after : K) (cause answered : Cause) (journal : History) (after : List D) → IsCaused held writes tree reads_before reads_after words before cause journal after → TellsFault told note_writes cause notes_before notes_after answered → IsRunnable tree words → NoneRose writes note_writes reads_before reads_after before after notes_before notes_after → answered ≡ causes.Memory
+pub complete_told : {D K : Type 0} (held : D → Option (List ℕ)) (writes : D → ℕ) (told : K → Option (List ℕ)) (note_writes : K → ℕ) (tree : Option (List Entry)) (reads_before reads_after : ℕ) (words : List (List ℕ)) (before : List D) (notes_before notes_after : K) (cause answered : Cause) (journal : History) (after : List D) → Stops held writes tree reads_before reads_after words before (row_of cause).step journal after → TellsFault told note_writes cause notes_before notes_after answered → IsRunnable tree words → NoneRose writes note_writes reads_before reads_after before after notes_before notes_after → answered ≡ causes.Memory
 complete_told held writes told note_writes tree reads_before reads_after words before notes_before notes_after cause answered journal after caused tells =
     complete held writes told note_writes tree reads_before reads_after words before notes_before notes_after answered journal after (faults held writes told note_writes tree reads_before reads_after words before notes_before notes_after cause answered journal after caused tells)
 
 -- ---- no failed read is passed over
 
-told_by : {X Y : Type 0} (cause answered : Cause) (reads_before reads_after : ℕ) → ReadsStill cause reads_before reads_after → ((answered ≡ cause) × X) ⊎ ((answered ≡ causes.Memory) × Y) → ReadsStill answered reads_before reads_after
-told_by cause answered reads_before reads_after still (inl tells) = subst (λ (c : Cause). ReadsStill c reads_before reads_after) (sym tells.0) still
-told_by cause answered reads_before reads_after still (inr forgets) = subst (λ (c : Cause). ReadsStill c reads_before reads_after) (sym forgets.0) tt
-
--- also where its line was tried
-pub still_told : {K : Type 0} (told : K → Option (List ℕ)) (note_writes : K → ℕ) (cause answered : Cause) (notes_before notes_after : K) (reads_before reads_after : ℕ) → ReadsStill cause reads_before reads_after → TellsFault told note_writes cause notes_before notes_after answered → ReadsStill answered reads_before reads_after
-still_told told note_writes (causes.Usage word) answered notes_before notes_after reads_before reads_after still tells = told_by (causes.Usage word) answered reads_before reads_after still tells
-still_told told note_writes (causes.NoProgram program) answered notes_before notes_after reads_before reads_after still tells = told_by (causes.NoProgram program) answered reads_before reads_after still tells
-still_told told note_writes (causes.Elf fault) answered notes_before notes_after reads_before reads_after still tells = told_by (causes.Elf fault) answered reads_before reads_after still tells
-still_told told note_writes (causes.StackTooLong size) answered notes_before notes_after reads_before reads_after still tells = told_by (causes.StackTooLong size) answered reads_before reads_after still tells
-still_told told note_writes (causes.PagesFull wanted) answered notes_before notes_after reads_before reads_after still tells = told_by (causes.PagesFull wanted) answered reads_before reads_after still tells
-still_told told note_writes (causes.ReadFault part) answered notes_before notes_after reads_before reads_after still tells = told_by (causes.ReadFault part) answered reads_before reads_after still tells
-still_told told note_writes (causes.WriteFault part) answered notes_before notes_after reads_before reads_after still tells = told_by (causes.WriteFault part) answered reads_before reads_after still tells
-still_told told note_writes causes.Memory answered notes_before notes_after reads_before reads_after still tells =
-    subst (λ (c : Cause). ReadsStill c reads_before reads_after) (sym tells.0) tt
+-- want of memory is free
+free : (before after : ℕ) → StillAt Anywhere before after
+free before after = λ read apart. absurd (apart refl)
 
 -- where their count stands still, any cause will do
-pub still_as : (cause : Cause) (reads_before reads_after : ℕ) → reads_after ≡ reads_before → ReadsStill cause reads_before reads_after
-still_as (causes.Usage word) reads_before reads_after still = still
-still_as (causes.NoProgram program) reads_before reads_after still = still
-still_as (causes.Elf fault) reads_before reads_after still = still
-still_as (causes.StackTooLong size) reads_before reads_after still = still
-still_as (causes.PagesFull wanted) reads_before reads_after still = still
-still_as (causes.ReadFault part) reads_before reads_after still = tt
-still_as (causes.WriteFault part) reads_before reads_after still = still
-still_as causes.Memory reads_before reads_after still = tt
+pub still_as : (cause : Cause) (before after : ℕ) → after ≡ before → ReadsStill cause before after
+still_as cause before after still = λ read apart. still
+
+-- the same of a cause as of its step
+pub still_at : (cause : Cause) (step : Step) (before after : ℕ) → (row_of cause).step ≡ step → StillAt step before after → ReadsStill cause before after
+still_at cause step before after same still = subst (λ (s : Step). StillAt s before after) (sym same) still
+
+-- a folder's error
+pub load_still : (error : FolderError) (fault : LoadFault) (before after : ℕ) → fault ≡ load_fault error → StillAt (tabled (AtLoading fault)) before after
+load_still errors.Failed fault before after same = subst (λ (f : LoadFault). StillAt (tabled (AtLoading f)) before after) (sym same) (λ read apart. absurd (read refl))
+load_still errors.Memory fault before after same = subst (λ (f : LoadFault). StillAt (tabled (AtLoading f)) before after) (sym same) (free before after)
+
+-- also where its line was tried
+pub still_told : {K : Type 0} (told : K → Option (List ℕ)) (note_writes : K → ℕ) (cause answered : Cause) (notes_before notes_after : K) (before after : ℕ) → ReadsStill cause before after → TellsFault told note_writes cause notes_before notes_after answered → ReadsStill answered before after
+still_told told note_writes cause answered notes_before notes_after before after still (inl tells) = subst (λ (c : Cause). ReadsStill c before after) (sym tells.0) still
+still_told told note_writes cause answered notes_before notes_after before after still (inr forgets) = subst (λ (c : Cause). ReadsStill c before after) (sym forgets.0) (free before after)

@@ -3,7 +3,7 @@ use Rattle.std.proofs.Common.{◌≡◌, ℕ, ◌≤◌, List, [], ◌∷◌, Op
 use Rattle.cli_words.specs.Command.{AllLawful, Asked, Budget, Choice, Env, IsAsked, budget_of, budgets, most_budget}
 use Rattle.guest_core.specs.declared.ends.End.{End}
 use Rattle.guest_core.specs.Machine.{Machine}
-use Rattle.emu_top.specs.declared.folder.Entry.{Entry}
+use Rattle.image_store.specs.declared.folder.Entry.{Entry}
 use Rattle.emu_top.specs.declared.prepare.Launch.{Launch}
 use Rattle.emu_top.specs.declared.solo.Halt.{Halt}
 use Rattle.emu_top.specs.declared.solo.Halt.TheVariants as halts

@@ -1,4 +1,3 @@
-pub mod FileFacts
 pub mod JournalFacts
 pub mod SendFacts
 pub mod TurnFacts

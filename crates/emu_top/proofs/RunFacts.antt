@@ -1,4 +1,5 @@
 -- A run goes on by a turn.
+use Rattle.file_table.specs.State.{outputs_of}
 use Rattle.std.proofs.Common.{◌≡◌, ℕ, ◌+◌, ◌<◌, ◌≤◌, List, [], ◌∷◌, ◌++◌, Option, Some, map, length, slice_index, ap, sym, ◌∙◌, length-append, arith}
 use Rattle.guest_core.specs.declared.events.Event.{Event}
 use Rattle.guest_core.specs.declared.events.Event.TheVariants.{Step}
@@ -12,7 +13,7 @@ use Rattle.emu_top.specs.declared.solo.Halt.TheVariants as halts
 use Rattle.emu_top.specs.declared.solo.Run.{Run}
 use Rattle.emu_top.specs.Sending.{NoneFell}
 use Rattle.emu_top.specs.Running.{WroteTo, Breaks, Makes, WentAhead, Stepped, KeepsSent, KeepsSentUpTo, FailsAt, Halted, Stopped}
-use Rattle.emu_top.specs.Told.{Rose}
+use Rattle.told.specs.Told.{Rose}
 
 -- a run so far, from how it was at first
 pub record SoFar {D : Type 0} (held : D → Option (List ℕ)) (writes : D → ℕ) (first now : Run D) : Type 0 where
@@ -21,7 +22,7 @@ pub record SoFar {D : Type 0} (held : D → Option (List ℕ)) (writes : D → �
   pub budget : now.journal.budget ≡ first.journal.budget
   pub sent : KeepsSent held first now
   pub devices : length now.devices.items ≡ length first.devices.items
-  pub outputs : length now.core.shared.files.outputs ≡ length first.core.shared.files.outputs
+  pub outputs : length (outputs_of now.core.shared.files) ≡ length (outputs_of first.core.shared.files)
   pub none_fell : NoneFell (map writes first.devices.items) (map writes now.devices.items)
   pub still : map writes now.devices.items ≡ map writes first.devices.items
 
@@ -38,7 +39,7 @@ longer now next old new makes = rw (makes.noted, length-append now makes.events)
 pub ahead_longer : {D : Type 0} (now next : Run D) (limit : ℕ) → WentAhead now next limit → length now.journal.events ≤ length next.journal.events
 ahead_longer now next limit ahead = longer now.journal.events next.journal.events now.core next.core ahead.made
 
-sent_ahead : {D : Type 0} (held : D → Option (List ℕ)) (first now next : Run D) → next.core.shared.files.outputs ≡ now.core.shared.files.outputs → next.devices ≡ now.devices → KeepsSent held first now → KeepsSent held first next
+sent_ahead : {D : Type 0} (held : D → Option (List ℕ)) (first now next : Run D) → (outputs_of next.core.shared.files) ≡ (outputs_of now.core.shared.files) → next.devices ≡ now.devices → KeepsSent held first now → KeepsSent held first next
 sent_ahead held first now next outputs devices sent = λ helds size all. rw (outputs, devices) (sent helds size all)
 
 pub so_far_ahead : {D : Type 0} (held : D → Option (List ℕ)) (writes : D → ℕ) (first now next : Run D) (limit : ℕ) → SoFar held writes first now → WentAhead now next limit → length now.journal.events + limit ≤ first.journal.budget → SoFar held writes first next
@@ -60,10 +61,10 @@ ran_more first now next ran stepped =
 count_more : {D : Type 0} (now next : Run D) → Stepped now next → length next.journal.events ≡ length now.journal.events + 1
 count_more now next stepped = ap length stepped.noted ∙ length-append now.journal.events (Step first_thread ∷ [])
 
-pub sent_on : {D : Type 0} (held : D → Option (List ℕ)) (first now next : Run D) → length now.core.shared.files.outputs ≡ length first.core.shared.files.outputs → KeepsSent held first now → KeepsSent held now next → KeepsSent held first next
+pub sent_on : {D : Type 0} (held : D → Option (List ℕ)) (first now next : Run D) → length (outputs_of now.core.shared.files) ≡ length (outputs_of first.core.shared.files) → KeepsSent held first now → KeepsSent held now next → KeepsSent held first next
 sent_on held first now next same before after = λ helds size all. after helds (size ∙ sym same) (before helds size all)
 
-breaks_on : {D : Type 0} (held : D → Option (List ℕ)) (device : ℕ) (first now next : Run D) → length now.core.shared.files.outputs ≡ length first.core.shared.files.outputs → run (Some first.core) now.journal.events ≡ Some now.core → KeepsSent held first now → next.journal.events ≡ now.journal.events ++ Step first_thread ∷ [] → WroteTo device now.core.shared.files.outputs next.core.shared.files.outputs → KeepsSentUpTo held device now next → Breaks held device first next
+breaks_on : {D : Type 0} (held : D → Option (List ℕ)) (device : ℕ) (first now next : Run D) → length (outputs_of now.core.shared.files) ≡ length (outputs_of first.core.shared.files) → run (Some first.core) now.journal.events ≡ Some now.core → KeepsSent held first now → next.journal.events ≡ now.journal.events ++ Step first_thread ∷ [] → WroteTo device (outputs_of now.core.shared.files) (outputs_of next.core.shared.files) → KeepsSentUpTo held device now next → Breaks held device first next
 breaks_on held device first now next same ran before noted writes after = λ helds size all. record {
   front = now.journal.events;
   earlier = now.core;
@@ -92,7 +93,7 @@ pub record Turned {D : Type 0} (held : D → Option (List ℕ)) (writes : D → 
   pub sent : KeepsSent held now next
   pub budget : next.journal.budget ≡ now.journal.budget
   pub devices : length next.devices.items ≡ length now.devices.items
-  pub outputs : length next.core.shared.files.outputs ≡ length now.core.shared.files.outputs
+  pub outputs : length (outputs_of next.core.shared.files) ≡ length (outputs_of now.core.shared.files)
   pub none_fell : NoneFell (map writes now.devices.items) (map writes next.devices.items)
   pub still : map writes next.devices.items ≡ map writes now.devices.items
 

@@ -1,7 +1,7 @@
 -- What sending to one device of a list does to what all hold, and to their counts.
 use Rattle.std.proofs.Common.{◌≡◌, ℕ, zero, suc, ◌<◌, ◌≤◌, List, [], ◌∷◌, Option, None, Result, Ok, Err, OnOk, OnErr, map, length, take, get_or, set, slice_index, refl, ap, sym, ◌∙◌, arith}
 use Rattle.std.proofs.lemmas.List.{map-set}
-use Rattle.emu_top.specs.Told.{more, Rose, HoldsBeginning}
+use Rattle.told.specs.Told.{more, Rose, HoldsBeginning}
 use Rattle.emu_top.specs.Sending.{AreUnread, NoneFell, OthersStill}
 
 -- what is found in a mapped list

@@ -1,4 +1,7 @@
 -- From a run of the core to what the top call answers.
+use Rattle.file_tree.specs.Nodes.{new_tree}
+use Rattle.file_table.specs.State.{outputs_of}
+use Rattle.file_table.proofs.OutputFacts.{outputs_at_start as files_at_start}
 use Rattle.std.proofs.Common.{◌≡◌, ℕ, ◌<◌, List, [], ◌∷◌, ◌++◌, append-nil, replicate, Some, None, Option, Result, Ok, Err, IfOk, IfErr, map, length, ◌⊎◌, inl, inr, refl, ap, sym, ◌∙◌, subst}
 use Rattle.std.proofs.lemmas.List.{length-map, length-replicate}
 use Rattle.elf_file.specs.declared.fault.ElfFault.{ElfFault}
@@ -15,14 +18,13 @@ use Rattle.emu_top.specs.declared.top.Stopped as top
 use Rattle.emu_top.specs.Running.{BreaksOff, Ran, Ended, Stopped}
 use Rattle.emu_top.specs.Sending.{sent}
 use Rattle.guest_core.specs.Event.{run}
-use Rattle.emu_top.specs.declared.folder.Entry.{Entry}
+use Rattle.image_store.specs.declared.folder.Entry.{Entry}
 use Rattle.cli_words.specs.Command.{Asked}
 use Rattle.emu_top.specs.Journal.{History}
-use Rattle.emu_top.specs.Solo.{status_of, launched, RunsFrom, CoreFinishes, CoreStops, Prepared, Journeys, Finishes, Untouched, StoppedBy, Wants, IsCaused, Faults, halt_cause}
-use Rattle.emu_top.specs.Notes.{cause_line, Tries, TellsFault}
+use Rattle.emu_top.specs.Solo.{status_of, launched, RunsFrom, CoreFinishes, CoreStops, Prepared, Journeys, Finishes, Untouched}
+use Rattle.emu_top.specs.Causes.{Step, AtWords, AtLoading, AtFile, AtStart, AtEvents, AtTelling, Anywhere, Nowhere, Fails, Faults, FaultsAt, Stops, TellsFault, row_of, tabled}
+use Rattle.emu_top.specs.Notes.{EndsUntold, TriesLine}
 use Rattle.emu_top.specs.declared.cause.Cause.{Cause}
-use Rattle.emu_top.specs.declared.cause.Cause.TheVariants as causes
-use Rattle.emu_top.specs.declared.cause.Part.TheVariants as parts
 use Rattle.emu_top.specs.View.{view}
 use Rattle.guest_core.specs.Kept.{Keeps}
 use Rattle.emu_top.proofs.EventsSimulate.{start_simulates}
@@ -31,7 +33,7 @@ use Rattle.emu_top.proofs.ScheduleFacts.{start_in_turn, start_whole}
 runs_from : {D : Type 0} (budget : ℕ) (first last : Run D) → first.journal.budget ≡ budget → Ran first last → RunsFrom first.core budget last.journal last.core
 runs_from budget first last is ran = record { enabled = ran.events; within = ran.within; budget_is = ran.budget ∙ is }
 
-core_stops : {D : Type 0} (held : D → Option (List ℕ)) (writes : D → ℕ) (halt : Halt) (budget : ℕ) (first last : Run D) → first.journal.budget ≡ budget → length (map held first.devices.items) ≡ length first.core.shared.files.outputs → map held first.devices.items ≡ sent (map held first.devices.items) first.core.shared.files.outputs → length last.devices.items ≡ length first.devices.items → Stopped held writes halt first last → CoreStops held writes first.core budget first.devices.items halt last.journal last.devices.items
+core_stops : {D : Type 0} (held : D → Option (List ℕ)) (writes : D → ℕ) (halt : Halt) (budget : ℕ) (first last : Run D) → first.journal.budget ≡ budget → length (map held first.devices.items) ≡ length (outputs_of first.core.shared.files) → map held first.devices.items ≡ sent (map held first.devices.items) (outputs_of first.core.shared.files) → length last.devices.items ≡ length first.devices.items → Stopped held writes halt first last → CoreStops held writes first.core budget first.devices.items halt last.journal last.devices.items
 core_stops held writes (halts.Device device) budget first last is size quiet same stopped = (
   last.core,
   runs_from budget first last is stopped.0,
@@ -43,13 +45,13 @@ core_stops held writes (halts.Device device) budget first last is size quiet sam
 core_stops held writes halts.Memory budget first last is size quiet same stopped =
     (last.core, runs_from budget first last is stopped.0, stopped.1 (map held first.devices.items) size quiet, stopped.2)
 
-pub answer_stops : {D : Type 0} (held : D → Option (List ℕ)) (writes : D → ℕ) (ended : Result End Halt) (budget : ℕ) (first last : Run D) (answer : Result (Finished D) (top.Stopped D)) → first.journal.budget ≡ budget → length (map held first.devices.items) ≡ length first.core.shared.files.outputs → map held first.devices.items ≡ sent (map held first.devices.items) first.core.shared.files.outputs → length last.devices.items ≡ length first.devices.items → IfErr ended (λ halt. Stopped held writes halt first last) → IfErr answer (λ f. (ended ≡ Err f.halt) × (f.journal ≡ last.journal) × (f.devices ≡ last.devices)) → IfErr answer (λ f. CoreStops held writes first.core budget first.devices.items f.halt f.journal f.devices.items)
+pub answer_stops : {D : Type 0} (held : D → Option (List ℕ)) (writes : D → ℕ) (ended : Result End Halt) (budget : ℕ) (first last : Run D) (answer : Result (Finished D) (top.Stopped D)) → first.journal.budget ≡ budget → length (map held first.devices.items) ≡ length (outputs_of first.core.shared.files) → map held first.devices.items ≡ sent (map held first.devices.items) (outputs_of first.core.shared.files) → length last.devices.items ≡ length first.devices.items → IfErr ended (λ halt. Stopped held writes halt first last) → IfErr answer (λ f. (ended ≡ Err f.halt) × (f.journal ≡ last.journal) × (f.devices ≡ last.devices)) → IfErr answer (λ f. CoreStops held writes first.core budget first.devices.items f.halt f.journal f.devices.items)
 answer_stops held writes ended budget first last (Ok f) is size quiet same stopped tells = tells
 answer_stops held writes ended budget first last (Err f) is size quiet same stopped tells =
     let halted : Stopped held writes f.halt first last = subst (λ (r : Result End Halt). IfErr r (λ halt. Stopped held writes halt first last)) tells.0 stopped in
     rw (tells.1, tells.2) (core_stops held writes f.halt budget first last is size quiet same halted)
 
-core_finishes : {D : Type 0} (held : D → Option (List ℕ)) (end : End) (status budget : ℕ) (first last : Run D) → first.journal.budget ≡ budget → length (map held first.devices.items) ≡ length first.core.shared.files.outputs → map held first.devices.items ≡ sent (map held first.devices.items) first.core.shared.files.outputs → Ended held end first last → status ≡ status_of end → CoreFinishes held first.core budget first.devices.items end status last.journal last.devices.items
+core_finishes : {D : Type 0} (held : D → Option (List ℕ)) (end : End) (status budget : ℕ) (first last : Run D) → first.journal.budget ≡ budget → length (map held first.devices.items) ≡ length (outputs_of first.core.shared.files) → map held first.devices.items ≡ sent (map held first.devices.items) (outputs_of first.core.shared.files) → Ended held end first last → status ≡ status_of end → CoreFinishes held first.core budget first.devices.items end status last.journal last.devices.items
 core_finishes held end status budget first last is size quiet ended status_is = record {
   last = last.core;
   runs = runs_from budget first last is ended.ran;
@@ -58,7 +60,7 @@ core_finishes held end status budget first last is size quiet ended status_is = 
   all_sent = ended.sent (map held first.devices.items) size quiet;
 }
 
-pub answer_finishes : {D : Type 0} (held : D → Option (List ℕ)) (ended : Result End Halt) (budget : ℕ) (first last : Run D) (answer : Result (Finished D) (top.Stopped D)) → first.journal.budget ≡ budget → length (map held first.devices.items) ≡ length first.core.shared.files.outputs → map held first.devices.items ≡ sent (map held first.devices.items) first.core.shared.files.outputs → IfOk ended (λ end. Ended held end first last) → IfOk answer (λ f. (ended ≡ Ok f.end) × (f.status ≡ status_of f.end) × (f.journal ≡ last.journal) × (f.devices ≡ last.devices)) → IfOk answer (λ f. CoreFinishes held first.core budget first.devices.items f.end f.status f.journal f.devices.items)
+pub answer_finishes : {D : Type 0} (held : D → Option (List ℕ)) (ended : Result End Halt) (budget : ℕ) (first last : Run D) (answer : Result (Finished D) (top.Stopped D)) → first.journal.budget ≡ budget → length (map held first.devices.items) ≡ length (outputs_of first.core.shared.files) → map held first.devices.items ≡ sent (map held first.devices.items) (outputs_of first.core.shared.files) → IfOk ended (λ end. Ended held end first last) → IfOk answer (λ f. (ended ≡ Ok f.end) × (f.status ≡ status_of f.end) × (f.journal ≡ last.journal) × (f.devices ≡ last.devices)) → IfOk answer (λ f. CoreFinishes held first.core budget first.devices.items f.end f.status f.journal f.devices.items)
 answer_finishes held ended budget first last (Err f) is size quiet done tells = tells
 answer_finishes held ended budget first last (Ok f) is size quiet done tells =
     let whole : Ended held f.end first last = subst (λ (r : Result End Halt). IfOk r (λ end. Ended held end first last)) tells.0 done in
@@ -66,9 +68,9 @@ answer_finishes held ended budget first last (Ok f) is size quiet done tells =
 
 -- ---- the start
 
-outputs_at_start : (program : Program) (devices : ℕ) → (started program devices).shared.files.outputs ≡ replicate devices []
+outputs_at_start : (program : Program) (devices : ℕ) → (outputs_of (started program devices).shared.files) ≡ replicate devices []
 unfolding started
-outputs_at_start program devices = refl
+outputs_at_start program devices = files_at_start new_tree devices
 
 nothing_sent : (helds : List (Option (List ℕ))) → sent helds (replicate (length helds) []) ≡ helds
 nothing_sent [] = refl
@@ -77,16 +79,16 @@ nothing_sent (Some held ∷ helds) =
     ap (λ rest. Some (held ++ []) ∷ rest) (nothing_sent helds) ∙ ap (λ bytes. Some bytes ∷ helds) (append-nil held)
 
 -- there is an output for each device
-pub start_size : {D : Type 0} (devices : List D) (program : Program) (count : ℕ) (core : Machine) → core ≡ started program count → count ≡ length devices → length devices ≡ length core.shared.files.outputs
+pub start_size : {D : Type 0} (devices : List D) (program : Program) (count : ℕ) (core : Machine) → core ≡ started program count → count ≡ length devices → length devices ≡ length (outputs_of core.shared.files)
 start_size devices program count core is same =
-    sym same ∙ sym (length-replicate count []) ∙ ap (λ (outputs : List (List ℕ)). length outputs) (sym (outputs_at_start program count)) ∙ ap (λ (m : Machine). length m.shared.files.outputs) (sym is)
+    sym same ∙ sym (length-replicate count []) ∙ ap (λ (outputs : List (List ℕ)). length outputs) (sym (outputs_at_start program count)) ∙ ap (λ (m : Machine). length (outputs_of m.shared.files)) (sym is)
 
 -- and nothing was written
-pub start_quiet : {D : Type 0} (held : D → Option (List ℕ)) (devices : List D) (program : Program) (count : ℕ) (core : Machine) → core ≡ started program count → count ≡ length devices → map held devices ≡ sent (map held devices) core.shared.files.outputs
+pub start_quiet : {D : Type 0} (held : D → Option (List ℕ)) (devices : List D) (program : Program) (count : ℕ) (core : Machine) → core ≡ started program count → count ≡ length devices → map held devices ≡ sent (map held devices) (outputs_of core.shared.files)
 start_quiet held devices program count core is same =
     let size : count ≡ length (map held devices) = same ∙ simp length-map in
-    let outputs : core.shared.files.outputs ≡ replicate (length (map held devices)) [] =
-    ap (λ (m : Machine). m.shared.files.outputs) is ∙ outputs_at_start program count ∙ ap (λ (n : ℕ). replicate n []) size in
+    let outputs : (outputs_of core.shared.files) ≡ replicate (length (map held devices)) [] =
+    ap (λ (m : Machine). (outputs_of m.shared.files)) is ∙ outputs_at_start program count ∙ ap (λ (n : ℕ). replicate n []) size in
     sym (nothing_sent (map held devices)) ∙ ap (sent (map held devices)) (sym outputs)
 
 -- ---- the answer
@@ -121,25 +123,25 @@ finishes held tree words asked elf core before end status journal after finished
   all_sent = finished.all_sent;
 }
 
--- and one that stopped is a cause
-pub is_caused : {D : Type 0} (held : D → Option (List ℕ)) (writes : D → ℕ) (tree : Option (List Entry)) (reads_before reads_after : ℕ) (words : List (List ℕ)) (asked : Asked) (elf : Image) (core : Machine) (before : List D) (halt : Halt) (journal : History) (after : List D) → CoreStops held writes core asked.budget before halt journal after → Prepared tree words asked elf → FitsIn (launched asked elf) → core ≡ started (launched asked elf) (length before) → Keeps core → IsCaused held writes tree reads_before reads_after words before (halt_cause halt) journal after
+-- and one that stopped is a fault of the events
+pub stops_at_events : {D : Type 0} (held : D → Option (List ℕ)) (writes : D → ℕ) (tree : Option (List Entry)) (reads_before reads_after : ℕ) (words : List (List ℕ)) (asked : Asked) (elf : Image) (core : Machine) (before : List D) (halt : Halt) (journal : History) (after : List D) → CoreStops held writes core asked.budget before halt journal after → Prepared tree words asked elf → FitsIn (launched asked elf) → core ≡ started (launched asked elf) (length before) → Keeps core → Stops held writes tree reads_before reads_after words before (tabled (AtEvents halt)) journal after
 unfolding journeys
-is_caused held writes tree reads_before reads_after words asked elf core before (halts.Device device) journal after stopped prepared fit is keeps = record {
+stops_at_events held writes tree reads_before reads_after words asked elf core before (halts.Device device) journal after stopped prepared fit is keeps = record {
   last = stopped.0;
   process = view stopped.0;
   journeys = journeys tree words asked elf (length before) core journal stopped.0 prepared fit is keeps stopped.1;
-  breaks_off = subst (λ (first : Machine). BreaksOff first journal.events stopped.0.shared.files.outputs device (map held before) (map held after)) is stopped.2;
+  breaks_off = subst (λ (first : Machine). BreaksOff first journal.events (outputs_of stopped.0.shared.files) device (map held before) (map held after)) is stopped.2;
   is_device = stopped.3;
   rose = stopped.4;
   others = stopped.5;
 }
-is_caused held writes tree reads_before reads_after words asked elf core before halts.Memory journal after stopped prepared fit is keeps = inr (record {
+stops_at_events held writes tree reads_before reads_after words asked elf core before halts.Memory journal after stopped prepared fit is keeps = inl (inr (record {
   last = stopped.0;
   process = view stopped.0;
   journeys = journeys tree words asked elf (length before) core journal stopped.0 prepared fit is keeps stopped.1;
   all_sent = stopped.2;
   still = stopped.3;
-})
+}))
 
 -- ---- the file's refusal
 
@@ -158,79 +160,63 @@ gives_fault (elf_faults.BadSegment index) read gives apart = gives
 gives_fault elf_faults.Entry read gives apart = gives
 gives_fault elf_faults.Memory read gives apart = absurd (apart refl)
 
--- ---- the line of a fault
+-- ---- what stops the work
+
+-- before the first event
+stops_before : {D : Type 0} (held : D → Option (List ℕ)) (writes : D → ℕ) (tree : Option (List Entry)) (reads_before reads_after : ℕ) (words : List (List ℕ)) (before : List D) (step : Step) (journal : History) (after : List D) → Fails tree reads_before reads_after words step → Untouched before journal after → Stops held writes tree reads_before reads_after words before step journal after
+stops_before held writes tree reads_before reads_after words before (AtWords fault) journal after fails untouched = (fails, untouched)
+stops_before held writes tree reads_before reads_after words before (AtLoading fault) journal after fails untouched = (fails, untouched)
+stops_before held writes tree reads_before reads_after words before (AtFile fault) journal after fails untouched = (fails, untouched)
+stops_before held writes tree reads_before reads_after words before (AtStart fault) journal after fails untouched = (fails, untouched)
+stops_before held writes tree reads_before reads_after words before (AtEvents halt) journal after fails untouched = absurd fails
+stops_before held writes tree reads_before reads_after words before AtTelling journal after fails untouched = absurd fails
+stops_before held writes tree reads_before reads_after words before Anywhere journal after fails untouched = inl (inl untouched)
+stops_before held writes tree reads_before reads_after words before Nowhere journal after fails untouched = absurd fails
+
+pub stops_untouched : {D : Type 0} (held : D → Option (List ℕ)) (writes : D → ℕ) (tree : Option (List Entry)) (reads_before reads_after : ℕ) (words : List (List ℕ)) (before : List D) (cause answered : Cause) (journal : History) (after : List D) → Fails tree reads_before reads_after words (row_of cause).step → answered ≡ cause → journal.events ≡ [] → journal.budget ≡ 0 → after ≡ before → Stops held writes tree reads_before reads_after words before (row_of answered).step journal after
+stops_untouched held writes tree reads_before reads_after words before cause answered journal after fails same none budget devices =
+    subst (λ (a : Cause). Stops held writes tree reads_before reads_after words before (row_of a).step journal after) (sym same)
+    (stops_before held writes tree reads_before reads_after words before (row_of cause).step journal after fails (record { no_event = none; no_budget = budget; devices = devices }))
 
 -- what stands of a fault where there was no memory for its line
-forgets : {D : Type 0} (held : D → Option (List ℕ)) (writes : D → ℕ) (tree : Option (List Entry)) (reads_before reads_after : ℕ) (words : List (List ℕ)) (before : List D) (cause : Cause) (journal : History) (after : List D) → IsCaused held writes tree reads_before reads_after words before cause journal after → (Untouched before journal after ⊎ Wants held writes tree words before journal after) ⊎ ((device : ℕ) × StoppedBy held writes device tree words before journal after)
-forgets held writes tree reads_before reads_after words before (causes.Usage word) journal after caused =
-    inl (inl caused.1)
-forgets held writes tree reads_before reads_after words before (causes.NoProgram program) journal after caused =
-    inl (inl caused.1)
-forgets held writes tree reads_before reads_after words before (causes.Elf fault) journal after caused =
-    inl (inl caused.1)
-forgets held writes tree reads_before reads_after words before (causes.StackTooLong size) journal after caused =
-    inl (inl caused.1)
-forgets held writes tree reads_before reads_after words before (causes.PagesFull wanted) journal after caused =
-    inl (inl caused.1)
-forgets held writes tree reads_before reads_after words before (causes.ReadFault part) journal after caused =
-    inl (inl caused.1)
-forgets held writes tree reads_before reads_after words before (causes.WriteFault parts.Folder) journal after caused =
-    absurd caused
-forgets held writes tree reads_before reads_after words before (causes.WriteFault (parts.Device device)) journal after caused =
-    inr (device, caused)
-forgets held writes tree reads_before reads_after words before (causes.WriteFault parts.Notes) journal after caused =
-    absurd caused
-forgets held writes tree reads_before reads_after words before causes.Memory journal after caused = inl caused
+forgets : {D : Type 0} (held : D → Option (List ℕ)) (writes : D → ℕ) (tree : Option (List Entry)) (reads_before reads_after : ℕ) (words : List (List ℕ)) (before : List D) (step : Step) (journal : History) (after : List D) → Stops held writes tree reads_before reads_after words before step journal after → Stops held writes tree reads_before reads_after words before Anywhere journal after
+forgets held writes tree reads_before reads_after words before (AtWords fault) journal after stops = inl (inl stops.1)
+forgets held writes tree reads_before reads_after words before (AtLoading fault) journal after stops = inl (inl stops.1)
+forgets held writes tree reads_before reads_after words before (AtFile fault) journal after stops = inl (inl stops.1)
+forgets held writes tree reads_before reads_after words before (AtStart fault) journal after stops = inl (inl stops.1)
+forgets held writes tree reads_before reads_after words before (AtEvents (halts.Device device)) journal after stops = inr (device, stops)
+forgets held writes tree reads_before reads_after words before (AtEvents halts.Memory) journal after stops = inl (inr stops)
+forgets held writes tree reads_before reads_after words before AtTelling journal after stops = absurd stops.0
+forgets held writes tree reads_before reads_after words before Anywhere journal after stops = stops
+forgets held writes tree reads_before reads_after words before Nowhere journal after stops = absurd stops.0
 
--- each fault but want of memory has a line
-abbrev HasLine : Cause → Type 0
-HasLine causes.Memory = ⊥
-HasLine cause = Unit {0}
+-- ---- the line of a fault
 
 -- a fault whose line was tried
-keeps : {D K : Type 0} (held : D → Option (List ℕ)) (writes : D → ℕ) (told : K → Option (List ℕ)) (note_writes : K → ℕ) (tree : Option (List Entry)) (reads_before reads_after : ℕ) (words : List (List ℕ)) (before : List D) (notes_before notes_after : K) (cause : Cause) (journal : History) (after : List D) → IsCaused held writes tree reads_before reads_after words before cause journal after → HasLine cause → Tries told note_writes (cause_line cause) notes_before notes_after → Faults held writes told note_writes tree reads_before reads_after words before notes_before notes_after cause journal after
-keeps held writes told note_writes tree reads_before reads_after words before notes_before notes_after (causes.Usage word) journal after caused apart tries =
-    (caused, tries)
-keeps held writes told note_writes tree reads_before reads_after words before notes_before notes_after (causes.NoProgram program) journal after caused apart tries =
-    (caused, tries)
-keeps held writes told note_writes tree reads_before reads_after words before notes_before notes_after (causes.Elf fault) journal after caused apart tries =
-    (caused, tries)
-keeps held writes told note_writes tree reads_before reads_after words before notes_before notes_after (causes.StackTooLong size) journal after caused apart tries =
-    (caused, tries)
-keeps held writes told note_writes tree reads_before reads_after words before notes_before notes_after (causes.PagesFull wanted) journal after caused apart tries =
-    (caused, tries)
-keeps held writes told note_writes tree reads_before reads_after words before notes_before notes_after (causes.ReadFault part) journal after caused apart tries =
-    (caused, tries)
-keeps held writes told note_writes tree reads_before reads_after words before notes_before notes_after (causes.WriteFault parts.Folder) journal after caused apart tries =
-    absurd caused
-keeps held writes told note_writes tree reads_before reads_after words before notes_before notes_after (causes.WriteFault (parts.Device device)) journal after caused apart tries =
-    (caused, tries)
-keeps held writes told note_writes tree reads_before reads_after words before notes_before notes_after (causes.WriteFault parts.Notes) journal after caused apart tries =
-    absurd caused
-keeps held writes told note_writes tree reads_before reads_after words before notes_before notes_after causes.Memory journal after caused apart tries =
-    absurd apart
-
-told_or_forgotten : {D K : Type 0} (held : D → Option (List ℕ)) (writes : D → ℕ) (told : K → Option (List ℕ)) (note_writes : K → ℕ) (tree : Option (List Entry)) (reads_before reads_after : ℕ) (words : List (List ℕ)) (before : List D) (notes_before notes_after : K) (cause answered : Cause) (journal : History) (after : List D) → IsCaused held writes tree reads_before reads_after words before cause journal after → HasLine cause → ((answered ≡ cause) × Tries told note_writes (cause_line cause) notes_before notes_after) ⊎ ((answered ≡ causes.Memory) × (notes_after ≡ notes_before)) → Faults held writes told note_writes tree reads_before reads_after words before notes_before notes_after answered journal after
-told_or_forgotten held writes told note_writes tree reads_before reads_after words before notes_before notes_after cause answered journal after caused apart (inl tried) =
-    subst (λ (a : Cause). Faults held writes told note_writes tree reads_before reads_after words before notes_before notes_after a journal after) (sym tried.0) (keeps held writes told note_writes tree reads_before reads_after words before notes_before notes_after cause journal after caused apart tried.1)
-told_or_forgotten held writes told note_writes tree reads_before reads_after words before notes_before notes_after cause answered journal after caused apart (inr none) =
-    subst (λ (a : Cause). Faults held writes told note_writes tree reads_before reads_after words before notes_before notes_after a journal after) (sym none.0) (forgets held writes tree reads_before reads_after words before cause journal after caused, none.1)
+faults_at : {D K : Type 0} (held : D → Option (List ℕ)) (writes : D → ℕ) (told : K → Option (List ℕ)) (note_writes : K → ℕ) (tree : Option (List Entry)) (reads_before reads_after : ℕ) (words : List (List ℕ)) (before : List D) (notes_before notes_after : K) (step : Step) (line : Option (List ℕ)) (journal : History) (after : List D) → Stops held writes tree reads_before reads_after words before step journal after → TriesLine told note_writes line notes_before notes_after → FaultsAt held writes told note_writes tree reads_before reads_after words before notes_before notes_after step line journal after
+faults_at held writes told note_writes tree reads_before reads_after words before notes_before notes_after (AtWords fault) line journal after stops tries = (stops, tries)
+faults_at held writes told note_writes tree reads_before reads_after words before notes_before notes_after (AtLoading fault) line journal after stops tries = (stops, tries)
+faults_at held writes told note_writes tree reads_before reads_after words before notes_before notes_after (AtFile fault) line journal after stops tries = (stops, tries)
+faults_at held writes told note_writes tree reads_before reads_after words before notes_before notes_after (AtStart fault) line journal after stops tries = (stops, tries)
+faults_at held writes told note_writes tree reads_before reads_after words before notes_before notes_after (AtEvents halt) line journal after stops tries = (stops, tries)
+faults_at held writes told note_writes tree reads_before reads_after words before notes_before notes_after AtTelling line journal after stops tries = absurd stops.0
+faults_at held writes told note_writes tree reads_before reads_after words before notes_before notes_after Anywhere line journal after stops tries = (stops, tries)
+faults_at held writes told note_writes tree reads_before reads_after words before notes_before notes_after Nowhere line journal after stops tries = absurd stops.0
 
 -- the fault of a run is the fault of the program once its line was tried
-pub faults : {D K : Type 0} (held : D → Option (List ℕ)) (writes : D → ℕ) (told : K → Option (List ℕ)) (note_writes : K → ℕ) (tree : Option (List Entry)) (reads_before reads_after : ℕ) (words : List (List ℕ)) (before : List D) (notes_before notes_after : K) (cause answered : Cause) (journal : History) (after : List D) → IsCaused held writes tree reads_before reads_after words before cause journal after → TellsFault told note_writes cause notes_before notes_after answered → Faults held writes told note_writes tree reads_before reads_after words before notes_before notes_after answered journal after
-faults held writes told note_writes tree reads_before reads_after words before notes_before notes_after (causes.Usage word) answered journal after caused tells =
-    told_or_forgotten held writes told note_writes tree reads_before reads_after words before notes_before notes_after (causes.Usage word) answered journal after caused tt tells
-faults held writes told note_writes tree reads_before reads_after words before notes_before notes_after (causes.NoProgram program) answered journal after caused tells =
-    told_or_forgotten held writes told note_writes tree reads_before reads_after words before notes_before notes_after (causes.NoProgram program) answered journal after caused tt tells
-faults held writes told note_writes tree reads_before reads_after words before notes_before notes_after (causes.Elf fault) answered journal after caused tells =
-    told_or_forgotten held writes told note_writes tree reads_before reads_after words before notes_before notes_after (causes.Elf fault) answered journal after caused tt tells
-faults held writes told note_writes tree reads_before reads_after words before notes_before notes_after (causes.StackTooLong size) answered journal after caused tells =
-    told_or_forgotten held writes told note_writes tree reads_before reads_after words before notes_before notes_after (causes.StackTooLong size) answered journal after caused tt tells
-faults held writes told note_writes tree reads_before reads_after words before notes_before notes_after (causes.PagesFull wanted) answered journal after caused tells =
-    told_or_forgotten held writes told note_writes tree reads_before reads_after words before notes_before notes_after (causes.PagesFull wanted) answered journal after caused tt tells
-faults held writes told note_writes tree reads_before reads_after words before notes_before notes_after (causes.ReadFault part) answered journal after caused tells =
-    told_or_forgotten held writes told note_writes tree reads_before reads_after words before notes_before notes_after (causes.ReadFault part) answered journal after caused tt tells
-faults held writes told note_writes tree reads_before reads_after words before notes_before notes_after (causes.WriteFault part) answered journal after caused tells =
-    told_or_forgotten held writes told note_writes tree reads_before reads_after words before notes_before notes_after (causes.WriteFault part) answered journal after caused tt tells
-faults held writes told note_writes tree reads_before reads_after words before notes_before notes_after causes.Memory answered journal after caused tells =
-    subst (λ (a : Cause). Faults held writes told note_writes tree reads_before reads_after words before notes_before notes_after a journal after) (sym tells.0) (inl caused, tells.1)
+pub faults : {D K : Type 0} (held : D → Option (List ℕ)) (writes : D → ℕ) (told : K → Option (List ℕ)) (note_writes : K → ℕ) (tree : Option (List Entry)) (reads_before reads_after : ℕ) (words : List (List ℕ)) (before : List D) (notes_before notes_after : K) (cause answered : Cause) (journal : History) (after : List D) → Stops held writes tree reads_before reads_after words before (row_of cause).step journal after → TellsFault told note_writes cause notes_before notes_after answered → Faults held writes told note_writes tree reads_before reads_after words before notes_before notes_after answered journal after
+faults held writes told note_writes tree reads_before reads_after words before notes_before notes_after cause answered journal after stops (inl tried) =
+    subst (λ (a : Cause). Faults held writes told note_writes tree reads_before reads_after words before notes_before notes_after a journal after) (sym tried.0)
+    (faults_at held writes told note_writes tree reads_before reads_after words before notes_before notes_after (row_of cause).step (row_of cause).line journal after stops tried.1)
+faults held writes told note_writes tree reads_before reads_after words before notes_before notes_after cause answered journal after stops (inr none) =
+    subst (λ (a : Cause). Faults held writes told note_writes tree reads_before reads_after words before notes_before notes_after a journal after) (sym none.0)
+    (forgets held writes tree reads_before reads_after words before (row_of cause).step journal after stops, none.1)
+
+-- and so is an end that couldn't be told
+pub untold_faults : {D K : Type 0} (held : D → Option (List ℕ)) (writes : D → ℕ) (told : K → Option (List ℕ)) (note_writes : K → ℕ) (tree : Option (List Entry)) (reads_before reads_after : ℕ) (words : List (List ℕ)) (before : List D) (notes_before notes_after : K) (end : End) (status : ℕ) (cause : Cause) (journal : History) (after : List D) → Finishes held tree words before end status journal after → map writes after ≡ map writes before → EndsUntold told note_writes journal.budget end notes_before notes_after cause → Faults held writes told note_writes tree reads_before reads_after words before notes_before notes_after cause journal after
+untold_faults held writes told note_writes tree reads_before reads_after words before notes_before notes_after end status cause journal after finishes still (inl untold) =
+    subst (λ (a : Cause). Faults held writes told note_writes tree reads_before reads_after words before notes_before notes_after a journal after) (sym untold.0)
+    (untold.1.0, record { end = end; status = status; finishes = finishes; has_line = untold.1.1; still = still }, untold.1.2)
+untold_faults held writes told note_writes tree reads_before reads_after words before notes_before notes_after end status cause journal after finishes still (inr none) =
+    subst (λ (a : Cause). Faults held writes told note_writes tree reads_before reads_after words before notes_before notes_after a journal after) (sym none.0)
+    (inl (inr (record { last = finishes.last; process = finishes.process; journeys = finishes.journeys; all_sent = finishes.all_sent; still = still })), none.1)

@@ -6,7 +6,7 @@ use Rattle.std.proofs.lemmas.Grind.{common_steps}
 use Rattle.std.proofs.lemmas.List.{length-set, set-get_or, set_past}
 use Rattle.host_calls.specs.Shared.{with_output}
 use Rattle.host_calls.specs.Owes.{Grows}
-use Rattle.emu_top.specs.Told.{more}
+use Rattle.told.specs.Told.{more}
 use Rattle.emu_top.specs.Sending.{sent, SentUpTo}
 
 -- the output of a device goes on

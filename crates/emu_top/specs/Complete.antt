@@ -4,12 +4,10 @@ use Rattle.std.specs.Prelude.{◌≡◌, ℕ, List, map, Option, Some, None, Ok,
 use Rattle.elf_file.specs.Reading.{Image, reading}
 use Rattle.cli_words.specs.Command.{Asked, IsAsked}
 use Rattle.guest_core.specs.Start.{FitsIn}
-use Rattle.emu_top.specs.declared.cause.Cause.{Cause}
-use Rattle.emu_top.specs.declared.cause.Cause.TheVariants as causes
-use Rattle.emu_top.specs.declared.folder.Entry.{Entry}
-use Rattle.emu_top.specs.Files.{listed, IsFileOf}
+use Rattle.image_store.specs.declared.folder.Entry.{Entry}
+use Rattle.image_store.specs.Files.{listed, IsFileOf}
 use Rattle.emu_top.specs.Solo.{HasProgram, launched}
-use Rattle.emu_top.specs.Told.{Rose}
+use Rattle.told.specs.Told.{Rose}
 
 -- the bytes are those of a file that starts with what is asked for
 abbrev pub Starts : Asked → List ℕ → Type 0
@@ -32,17 +30,6 @@ pub record NoneRose {D K : Type 0} (writes : D → ℕ) (note_writes : K → ℕ
   pub reads : Rose reads_before reads_after → ⊥
   pub devices : (device : ℕ) → Rose (slice_index (map writes before) device) (slice_index (map writes after) device) → ⊥
   pub notes : Rose (note_writes notes_before) (note_writes notes_after) → ⊥
-
--- A failed read is told: but at its own cause, and at want of memory, which is free, their count is as before.
-abbrev pub ReadsStill : Cause → ℕ → ℕ → Type 0
-ReadsStill (causes.Usage word) before after = after ≡ before
-ReadsStill (causes.NoProgram program) before after = after ≡ before
-ReadsStill (causes.Elf fault) before after = after ≡ before
-ReadsStill (causes.StackTooLong size) before after = after ≡ before
-ReadsStill (causes.PagesFull wanted) before after = after ≡ before
-ReadsStill (causes.ReadFault part) before after = Unit {0}
-ReadsStill (causes.WriteFault part) before after = after ≡ before
-ReadsStill causes.Memory before after = Unit {0}
 
 -- no failure was passed over: all counts of faults are as before
 pub record NothingFailed {D K : Type 0} (writes : D → ℕ) (note_writes : K → ℕ) (reads_before reads_after : ℕ) (before after : List D) (notes_before notes_after : K) : Type 0 where

@@ -1,5 +1,3 @@
-pub mod Told
-pub mod Files
 pub mod Journal
 pub mod Sending
 pub mod Running
@@ -9,5 +7,6 @@ pub mod Loading
 pub mod View
 pub mod Labels
 pub mod Notes
+pub mod Causes
 pub mod Complete
 pub mod Streams

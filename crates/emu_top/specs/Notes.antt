@@ -9,7 +9,7 @@ use Rattle.emu_top.specs.declared.cause.Cause.{Cause}
 use Rattle.emu_top.specs.declared.cause.Cause.TheVariants as causes
 use Rattle.emu_top.specs.declared.cause.Part.{Part}
 use Rattle.emu_top.specs.declared.cause.Part.TheVariants as parts
-use Rattle.emu_top.specs.Told.{more, Rose, HoldsBeginning}
+use Rattle.told.specs.Told.{more, Rose, HoldsBeginning}
 
 abbrev pub newline : List ℕ
 newline = 10 ∷ []
@@ -41,17 +41,6 @@ fault_text (elf.Overlap first second) = codes "Overlap " ++ (decimal first ++ (c
 fault_text elf.Entry = codes "Entry"
 fault_text elf.Memory = codes "Memory"
 
--- the line of a fault. Want of memory and a failure of the notes have none
-abbrev pub cause_line : Cause → List ℕ
-cause_line (causes.Usage word) = codes "rvuser: usage: word " ++ (decimal word ++ newline)
-cause_line (causes.NoProgram program) = codes "rvuser: no file " ++ (program ++ newline)
-cause_line (causes.Elf fault) = codes "rvuser: not runnable: " ++ (fault_text fault ++ newline)
-cause_line (causes.StackTooLong size) = codes "rvuser: stack texts of " ++ (decimal size ++ codes " bytes\n")
-cause_line (causes.PagesFull wanted) = codes "rvuser: " ++ (decimal wanted ++ codes " pages wanted\n")
-cause_line (causes.ReadFault part) = codes "rvuser: read failed: " ++ (part_text part ++ newline)
-cause_line (causes.WriteFault part) = codes "rvuser: write failed: " ++ (part_text part ++ newline)
-cause_line causes.Memory = []
-
 -- the sink failed at the line, and holds a beginning of it
 pub record FailsToTell {K : Type 0} (told : K → Option (List ℕ)) (writes : K → ℕ) (line : List ℕ) (before after : K) : Type 0 where
   pub beginning : HoldsBeginning (told before) line (told after)
@@ -66,16 +55,13 @@ TellsEnd told (Some line) before after = told after ≡ more (told before) line
 abbrev pub Tries : {K : Type 0} → (K → Option (List ℕ)) → (K → ℕ) → List ℕ → K → K → Type 0
 Tries told writes line before after = (told after ≡ more (told before) line) ⊎ FailsToTell told writes line before after
 
--- Of a fault with a line, the line was tried. Where there was no memory for the line, the fault is want of memory, and
--- the sink stays as it was.
-abbrev pub TellsFault : {K : Type 0} → (K → Option (List ℕ)) → (K → ℕ) → Cause → K → K → Cause → Type 0
-TellsFault told writes causes.Memory before after answered = (answered ≡ causes.Memory) × (after ≡ before)
-TellsFault told writes cause before after answered =
-    ((answered ≡ cause) × Tries told writes (cause_line cause) before after) ⊎ ((answered ≡ causes.Memory) × (after ≡ before))
+-- a line was tried, where there is one
+abbrev pub TriesLine : {K : Type 0} → (K → Option (List ℕ)) → (K → ℕ) → Option (List ℕ) → K → K → Type 0
+TriesLine told writes None before after = after ≡ before
+TriesLine told writes (Some line) before after = Tries told writes line before after
 
 -- Why an end wasn't told: the sink failed at its line, or there was no memory for it.
 abbrev pub EndsUntold : {K : Type 0} → (K → Option (List ℕ)) → (K → ℕ) → ℕ → End → K → K → Cause → Type 0
-EndsUntold told writes budget end before after (causes.WriteFault parts.Notes) =
-    (line : List ℕ) × (end_line budget end ≡ Some line) × FailsToTell told writes line before after
-EndsUntold told writes budget end before after causes.Memory = after ≡ before
-EndsUntold told writes budget end before after cause = ⊥
+EndsUntold told writes budget end before after cause =
+    ((cause ≡ causes.WriteFault parts.Notes) × ((line : List ℕ) × (end_line budget end ≡ Some line) × FailsToTell told writes line before after))
+    ⊎ ((cause ≡ causes.Memory) × (after ≡ before))

@@ -1,5 +1,6 @@
 -- A run as it goes on: the core, the journal, and the devices that are handed what is new.
 -- The project's own.
+use Rattle.file_table.specs.State.{outputs_of}
 use Rattle.std.specs.Prelude.{◌≡◌, ◌<◌, ◌≤◌, ℕ, ◌+◌, List, [], ◌∷◌, ◌++◌, map, length, Option, Some, None, slice_index, slice_index_or}
 use Rattle.guest_core.specs.declared.events.Event.{Event}
 use Rattle.guest_core.specs.declared.events.Event.TheVariants.{Step}
@@ -12,7 +13,7 @@ use Rattle.emu_top.specs.declared.solo.Halt.{Halt}
 use Rattle.emu_top.specs.declared.solo.Halt.TheVariants as halts
 use Rattle.emu_top.specs.declared.solo.Run.{Run}
 use Rattle.emu_top.specs.Sending.{OthersStill, sent, SentUpTo}
-use Rattle.emu_top.specs.Told.{Rose}
+use Rattle.told.specs.Told.{Rose}
 
 -- no thread but the first lives, and it does
 abbrev pub OneLives : Machine → Type 0
@@ -33,7 +34,7 @@ pub record Makes (old : Machine) (events_before : List Event) (new : Machine) (e
 pub record WentAhead {D : Type 0} (old new : Run D) (limit : ℕ) : Type 0 where
   pub made : Makes old.core old.journal.events new.core new.journal.events
   pub few : length new.journal.events ≤ length old.journal.events + limit
-  pub outputs : new.core.shared.files.outputs ≡ old.core.shared.files.outputs
+  pub outputs : outputs_of new.core.shared.files ≡ outputs_of old.core.shared.files
   pub end : new.core.end ≡ old.core.end
   pub budget : new.journal.budget ≡ old.journal.budget
   pub devices : new.devices ≡ old.devices
@@ -47,16 +48,16 @@ pub record Stays {D : Type 0} (old new : Run D) : Type 0 where
 -- Where all outputs had been sent to devices that held this at first, all are sent.
 abbrev pub KeepsSent : {D : Type 0} → (D → Option (List ℕ)) → Run D → Run D → Type 0
 KeepsSent held old new =
-    (helds : List (Option (List ℕ))) → length helds ≡ length old.core.shared.files.outputs
-    → map held old.devices.items ≡ sent helds old.core.shared.files.outputs
-    → map held new.devices.items ≡ sent helds new.core.shared.files.outputs
+    (helds : List (Option (List ℕ))) → length helds ≡ length (outputs_of old.core.shared.files)
+    → map held old.devices.items ≡ sent helds (outputs_of old.core.shared.files)
+    → map held new.devices.items ≡ sent helds (outputs_of new.core.shared.files)
 
 -- the same but for a device that failed at the last write
 abbrev pub KeepsSentUpTo : {D : Type 0} → (D → Option (List ℕ)) → ℕ → Run D → Run D → Type 0
 KeepsSentUpTo held device old new =
-    (helds : List (Option (List ℕ))) → length helds ≡ length old.core.shared.files.outputs
-    → map held old.devices.items ≡ sent helds old.core.shared.files.outputs
-    → SentUpTo helds old.core.shared.files.outputs new.core.shared.files.outputs device (map held new.devices.items)
+    (helds : List (Option (List ℕ))) → length helds ≡ length (outputs_of old.core.shared.files)
+    → map held old.devices.items ≡ sent helds (outputs_of old.core.shared.files)
+    → SentUpTo helds (outputs_of old.core.shared.files) (outputs_of new.core.shared.files) device (map held new.devices.items)
 
 -- the device is there, and its count of failed writes rose, and no other's
 pub record FailsAt {D : Type 0} (writes : D → ℕ) (device : ℕ) (old new : Run D) : Type 0 where
@@ -71,7 +72,7 @@ WroteTo device old new = length (slice_index_or old device []) < length (slice_i
 -- why a turn stopped, and what it leaves
 abbrev pub Halted : {D : Type 0} → (D → Option (List ℕ)) → (D → ℕ) → Halt → Run D → Run D → Type 0
 Halted held writes (halts.Device device) old new =
-    Stepped old new × KeepsSentUpTo held device old new × FailsAt writes device old new × WroteTo device old.core.shared.files.outputs new.core.shared.files.outputs
+    Stepped old new × KeepsSentUpTo held device old new × FailsAt writes device old new × WroteTo device (outputs_of old.core.shared.files) (outputs_of new.core.shared.files)
 Halted held writes halts.Memory old new = Stays old new
 
 -- The events of the journal are a run from the core at first to the core afterwards: each is enabled after those
@@ -98,15 +99,15 @@ pub record BreaksOff (first : Machine) (events : List Event) (outputs : List (Li
   pub earlier : Machine
   pub events_are : events ≡ front ++ Step first_thread ∷ []
   pub ran : run (Some first) front ≡ Some earlier
-  pub writes : WroteTo device earlier.shared.files.outputs outputs
-  pub sent_up_to : SentUpTo helds earlier.shared.files.outputs outputs device after
+  pub writes : WroteTo device (outputs_of earlier.shared.files) outputs
+  pub sent_up_to : SentUpTo helds (outputs_of earlier.shared.files) outputs device after
 
 -- where all outputs had been sent to devices that held this at first, the run breaks off so
 abbrev pub Breaks : {D : Type 0} → (D → Option (List ℕ)) → ℕ → Run D → Run D → Type 0
 Breaks held device old new =
-    (helds : List (Option (List ℕ))) → length helds ≡ length old.core.shared.files.outputs
-    → map held old.devices.items ≡ sent helds old.core.shared.files.outputs
-    → BreaksOff old.core new.journal.events new.core.shared.files.outputs device helds (map held new.devices.items)
+    (helds : List (Option (List ℕ))) → length helds ≡ length (outputs_of old.core.shared.files)
+    → map held old.devices.items ≡ sent helds (outputs_of old.core.shared.files)
+    → BreaksOff old.core new.journal.events (outputs_of new.core.shared.files) device helds (map held new.devices.items)
 
 -- a run that a fault stopped
 abbrev pub Stopped : {D : Type 0} → (D → Option (List ℕ)) → (D → ℕ) → Halt → Run D → Run D → Type 0

@@ -1,7 +1,7 @@
 -- What devices hold once the outputs of a run were sent to them.
 -- The project's own.
 use Rattle.std.specs.Prelude.{◌≡◌, ◌≢◌, ℕ, ◌≤◌, List, [], ◌∷◌, length, map, take, Option, None, slice_index, slice_index_or, slice_set}
-use Rattle.emu_top.specs.Told.{more}
+use Rattle.told.specs.Told.{more}
 
 -- each holds what it held, and its output behind that
 abbrev pub sent : List (Option (List ℕ)) → List (List ℕ) → List (Option (List ℕ))

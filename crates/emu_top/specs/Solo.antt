@@ -1,37 +1,29 @@
 -- What `solo` answers: the headline of the program.
 -- The project's own.
-use Rattle.std.specs.Prelude.{◌≡◌, ◌≢◌, ◌⊎◌, ◌<◌, ◌≤◌, ℕ, ◌+◌, Bool, false, List, [], ◌∷◌, map, length, Option, Some, Ok, Err, nat_eq, slice_index}
+use Rattle.file_table.specs.State.{outputs_of}
+use Rattle.std.specs.Prelude.{◌≡◌, ◌<◌, ◌≤◌, ℕ, ◌+◌, Bool, false, List, [], ◌∷◌, map, length, Option, Some, Ok, nat_eq, slice_index}
 use Rattle.std.specs.List.{starts_with}
-use Rattle.elf_file.specs.declared.fault.ElfFault.TheVariants as elf_faults
 use Rattle.elf_file.specs.Reading.{Image, reading}
 use Rattle.cli_words.specs.Command.{Asked, IsAsked}
-use Rattle.cli_words.specs.FirstWrong.{IsAccepted, IsFirstWrong}
-use Rattle.start_stack.specs.Placing.{stack_size, told_size}
 use Rattle.guest_core.specs.declared.ends.End.{End}
 use Rattle.guest_core.specs.declared.ends.End.TheVariants.{Exit, Killed, Budget}
 use Rattle.guest_core.specs.Machine.{Machine}
 use Rattle.guest_core.specs.Event.{run}
-use Rattle.guest_core.specs.Start.{Program, program_of, started, wanted_pages, told_pages, FitsIn}
-use Rattle.guest_pages.specs.Limits.{most_pages, most_stack_bytes}
-use Rattle.guest_core.specs.declared.starting.StartFault.{StartFault}
-use Rattle.guest_core.specs.declared.starting.StartFault.TheVariants as starts
+use Rattle.guest_core.specs.Start.{Program, program_of, started, FitsIn}
 use Rattle.linux_model.specs.Process.{ProcessState, begun, seen_outputs, seen_end}
 use Rattle.linux_model.specs.Steps.{follow}
-use Rattle.emu_top.specs.declared.folder.Entry.{Entry}
-use Rattle.emu_top.specs.declared.folder.Listed.{Listed}
-use Rattle.emu_top.specs.declared.cause.Cause.{Cause}
-use Rattle.emu_top.specs.declared.cause.Cause.TheVariants as causes
-use Rattle.emu_top.specs.declared.cause.Part.TheVariants as parts
+use Rattle.image_store.specs.declared.folder.Entry.{Entry}
+use Rattle.image_store.specs.declared.folder.Listed.{Listed}
 use Rattle.emu_top.specs.declared.solo.Halt.{Halt}
 use Rattle.emu_top.specs.declared.solo.Halt.TheVariants as halts
-use Rattle.emu_top.specs.Files.{NamesFile, Lists, Reads}
+use Rattle.image_store.specs.Files.{NamesFile, Lists, Reads}
 use Rattle.emu_top.specs.Journal.{History}
 use Rattle.emu_top.specs.Labels.{run_labels}
-use Rattle.emu_top.specs.Notes.{end_line, cause_line, Tries, FailsToTell}
+use Rattle.emu_top.specs.Notes.{end_line}
 use Rattle.emu_top.specs.Running.{BreaksOff, IsEnd}
 use Rattle.emu_top.specs.Schedule.{scheduled}
 use Rattle.emu_top.specs.Sending.{OthersStill, sent}
-use Rattle.emu_top.specs.Told.{Rose}
+use Rattle.told.specs.Told.{Rose}
 use Rattle.emu_top.specs.View.{view}
 
 -- the status of the program at an end
@@ -109,18 +101,18 @@ pub record CoreFinishes {D : Type 0} (held : D → Option (List ℕ)) (core : Ma
   pub runs : RunsFrom core budget journal last
   pub end_is : IsEnd last.end (length journal.events) journal.budget end
   pub status_is : status ≡ status_of end
-  pub all_sent : map held after ≡ sent (map held before) last.shared.files.outputs
+  pub all_sent : map held after ≡ sent (map held before) (outputs_of last.shared.files)
 
 abbrev pub CoreStops : {D : Type 0} → (D → Option (List ℕ)) → (D → ℕ) → Machine → ℕ → List D → Halt → History → List D → Type 0
 CoreStops held writes core budget before (halts.Device device) journal after =
     (last : Machine) × RunsFrom core budget journal last
-    × BreaksOff core journal.events last.shared.files.outputs device (map held before) (map held after)
+    × BreaksOff core journal.events (outputs_of last.shared.files) device (map held before) (map held after)
     × (device < length before)
     × Rose (slice_index (map writes before) device) (slice_index (map writes after) device)
     × OthersStill (map writes before) (map writes after) device
 CoreStops held writes core budget before halts.Memory journal after =
     (last : Machine) × RunsFrom core budget journal last
-    × (map held after ≡ sent (map held before) last.shared.files.outputs) × (map writes after ≡ map writes before)
+    × (map held after ≡ sent (map held before) (outputs_of last.shared.files)) × (map writes after ≡ map writes before)
 
 -- nothing was started, and the journal is that of no run: the words may have given no budget
 pub record Untouched {D : Type 0} (before : List D) (journal : History) (after : List D) : Type 0 where
@@ -147,39 +139,6 @@ pub record Wants {D : Type 0} (held : D → Option (List ℕ)) (writes : D → �
   pub all_sent : map held after ≡ sent (map held before) (seen_outputs process)
   pub still : map writes after ≡ map writes before
 
--- why no start was made. Want of memory is free
-abbrev pub Unprepared : Option (List Entry) → ℕ → ℕ → List (List ℕ) → Cause → Type 0
-Unprepared tree reads_before reads_after words (causes.Usage word) = IsFirstWrong words word
-Unprepared tree reads_before reads_after words (causes.NoProgram program) =
-    (asked : Asked) × IsAsked words asked × (asked.program ≡ program)
-    × ((listing : List Listed) × Lists tree listing × (HasProgram listing program → ⊥))
-Unprepared tree reads_before reads_after words (causes.Elf fault) =
-    (asked : Asked) × (bytes : List ℕ) × IsAsked words asked
-    × Found tree asked.program bytes × (reading bytes ≡ Err fault) × (fault ≢ elf_faults.Memory)
-Unprepared tree reads_before reads_after words (causes.StackTooLong size) =
-    (asked : Asked) × (elf : Image) × Prepared tree words asked elf
-    × (size ≡ told_size (args_of asked) asked.env) × (most_stack_bytes < stack_size (args_of asked) asked.env)
-Unprepared tree reads_before reads_after words (causes.PagesFull wanted) =
-    (asked : Asked) × (elf : Image) × Prepared tree words asked elf
-    × (wanted ≡ told_pages elf) × (most_pages < wanted_pages elf) × (stack_size (args_of asked) asked.env ≤ most_stack_bytes)
-Unprepared tree reads_before reads_after words (causes.ReadFault parts.Folder) =
-    IsAccepted words × Rose reads_before reads_after
-Unprepared tree reads_before reads_after words (causes.ReadFault (parts.Device device)) = ⊥
-Unprepared tree reads_before reads_after words (causes.ReadFault parts.Notes) = ⊥
-Unprepared tree reads_before reads_after words (causes.WriteFault part) = ⊥
-Unprepared tree reads_before reads_after words causes.Memory = Unit {0}
-
--- each cause of a fault before the notes, and what it leaves
-abbrev pub IsCaused : {D : Type 0} → (D → Option (List ℕ)) → (D → ℕ) → Option (List Entry) → ℕ → ℕ → List (List ℕ) → List D → Cause → History → List D → Type 0
-IsCaused held writes tree reads_before reads_after words before (causes.WriteFault (parts.Device device)) journal after =
-    StoppedBy held writes device tree words before journal after
-IsCaused held writes tree reads_before reads_after words before (causes.WriteFault parts.Folder) journal after = ⊥
-IsCaused held writes tree reads_before reads_after words before (causes.WriteFault parts.Notes) journal after = ⊥
-IsCaused held writes tree reads_before reads_after words before causes.Memory journal after =
-    Untouched before journal after ⊎ Wants held writes tree words before journal after
-IsCaused held writes tree reads_before reads_after words before cause journal after =
-    Unprepared tree reads_before reads_after words cause × Untouched before journal after
-
 -- What a run that came to an end, where no device failed, may still answer, with the sink: its line couldn't be told, or
 -- made.
 pub record Unended {D : Type 0} (held : D → Option (List ℕ)) (writes : D → ℕ) (tree : Option (List Entry)) (words : List (List ℕ)) (before : List D) (line : List ℕ) (journal : History) (after : List D) : Type 0 where
@@ -188,36 +147,3 @@ pub record Unended {D : Type 0} (held : D → Option (List ℕ)) (writes : D →
   pub finishes : Finishes held tree words before end status journal after
   pub has_line : end_line journal.budget end ≡ Some line
   pub still : map writes after ≡ map writes before
-
--- Each cause of a fault, and what it leaves. A fault's line stands on the notes, or a beginning of it where they
--- failed. Want of memory leaves the notes as they were: it may come before the start, in a run, at the making of an
--- end's line or of a device's fault.
-abbrev pub Faults : {D K : Type 0} → (D → Option (List ℕ)) → (D → ℕ) → (K → Option (List ℕ)) → (K → ℕ) → Option (List Entry) → ℕ → ℕ → List (List ℕ) → List D → K → K → Cause → History → List D → Type 0
-Faults held writes told note_writes tree reads_before reads_after words before notes_before notes_after (causes.WriteFault parts.Notes) journal after =
-    (line : List ℕ) × Unended held writes tree words before line journal after × FailsToTell told note_writes line notes_before notes_after
-Faults held writes told note_writes tree reads_before reads_after words before notes_before notes_after causes.Memory journal after =
-    ((Untouched before journal after ⊎ Wants held writes tree words before journal after) ⊎ ((device : ℕ) × StoppedBy held writes device tree words before journal after)) × (notes_after ≡ notes_before)
-Faults held writes told note_writes tree reads_before reads_after words before notes_before notes_after cause journal after =
-    IsCaused held writes tree reads_before reads_after words before cause journal after × Tries told note_writes (cause_line cause) notes_before notes_after
-
--- the status of the program at a fault
-abbrev pub fault_status : Cause → ℕ
-fault_status (causes.Usage word) = 64
-fault_status (causes.NoProgram program) = 66
-fault_status (causes.Elf fault) = 65
-fault_status (causes.StackTooLong size) = 65
-fault_status (causes.PagesFull wanted) = 65
-fault_status (causes.ReadFault part) = 74
-fault_status (causes.WriteFault part) = 74
-fault_status causes.Memory = 70
-
--- the cause that stopped a run
-abbrev pub halt_cause : Halt → Cause
-halt_cause (halts.Device device) = causes.WriteFault (parts.Device device)
-halt_cause halts.Memory = causes.Memory
-
--- the cause that a start was refused for
-abbrev pub start_cause : StartFault → Cause
-start_cause (starts.StackTooLong size) = causes.StackTooLong size
-start_cause (starts.PagesFull wanted) = causes.PagesFull wanted
-start_cause starts.Memory = causes.Memory

@@ -33,11 +33,11 @@ pub enum Cause {
 
 impl Cause {
     ghost use Rattle.std.specs.Prelude.{◌≡◌};
-    ghost use Rattle.emu_top.specs.Solo.{fault_status};
+    ghost use Rattle.emu_top.specs.Causes.{row_of};
 
     /// The status with which the program ends.
     pub fn status(&self) -> u8
-        ensures { result ≡ fault_status self.now }
+        ensures { result ≡ (row_of self.now).status }
     {
         match self {
             Cause::Usage { .. } => 64,
@@ -46,7 +46,9 @@ impl Cause {
             Cause::StackTooLong { .. } => 65,
             Cause::PagesFull { .. } => 65,
             Cause::ReadFault(_) => 74,
-            Cause::WriteFault(_) => 74,
+            Cause::WriteFault(Part::Folder) => 74,
+            Cause::WriteFault(Part::Device(_)) => 74,
+            Cause::WriteFault(Part::Notes) => 74,
             Cause::Memory => 70,
         }
     }

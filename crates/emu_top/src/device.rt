@@ -1,5 +1,5 @@
 ghost use Rattle.std.specs.Prelude.{◌≡◌, ◌≤◌, ◌<◌, ℕ, List, Option, Ok, IfOk, OnOk, OnErr, length};
-ghost use Rattle.emu_top.specs.Told.{more, HasCause, HoldsBeginning, Gave, HasNone};
+ghost use Rattle.told.specs.Told.{more, HasCause, HoldsBeginning, Gave, HasNone};
 
 /// A device could not do what was asked of it.
 #[derive(Clone, Copy, Debug, PartialEq, Eq)]

@@ -10,6 +10,8 @@
 //! machine don't. A journal is seen as the list of its events.
 //!
 //! An attempt is made without a word, and then told: at most one line is put on the sink (`specs/Notes.antt`).
+//! Why the program gives up is one table (`specs/Causes.antt`): each cause has its status, its line, and the step of the work
+//! at which it comes, with the fault that this step's part answers.
 //!
 //! # The headline
 //!
@@ -19,15 +21,11 @@
 
 pub mod cause;
 pub mod device;
-mod failing;
-pub mod folder;
 pub mod journal;
 pub mod memory_device;
-pub mod memory_folder;
 pub mod memory_sink;
 mod notes;
 mod prepare;
-pub mod real_folder;
 mod simulation;
 pub mod sink;
 mod solo;

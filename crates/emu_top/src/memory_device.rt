@@ -1,9 +1,9 @@
 ghost use Rattle.std.specs.Prelude.{◌≡◌, ◌+◌, [], Some, drop};
 
 use crate::device::{Device, DeviceFailed};
-use crate::failing::Failing;
 use le_fields::Bytes;
 use std::alloc::Global;
+use told::Failing;
 
 /// A device in memory, which tells what it has left and what it holds. It fails at the gives and takes of the numbers
 /// that it is given; a take that fails takes the first half of its bytes.

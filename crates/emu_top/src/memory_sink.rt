@@ -1,9 +1,9 @@
 ghost use Rattle.std.specs.Prelude.{◌≡◌, [], Some};
 
-use crate::failing::Failing;
 use crate::sink::{Sink, SinkFailed};
 use le_fields::Bytes;
 use std::alloc::Global;
+use told::Failing;
 
 /// A sink in memory, which tells what it holds. It fails at the puts of the numbers that it is given, which put the
 /// first half of their bytes.

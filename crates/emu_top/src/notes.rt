@@ -3,7 +3,8 @@
 ghost use Rattle.std.specs.Prelude.{◌≡◌, ◌++◌, IfOk};
 ghost use Rattle.std.specs.Option.{option_map};
 ghost use Rattle.std.specs.String.{string_bytes};
-ghost use Rattle.emu_top.specs.Notes.{end_line, part_text, fault_text, cause_line, newline};
+ghost use Rattle.emu_top.specs.Causes.{row_of};
+ghost use Rattle.emu_top.specs.Notes.{end_line, part_text, fault_text, newline};
 
 use crate::cause::{Cause, Part};
 use elf_file::ElfFault;
@@ -54,31 +55,44 @@ fn text_of_fault(alloc: Global, fault: &ElfFault) -> Result<String, AllocError>
     }
 }
 
-/// The line of a fault.
-pub fn line_of_cause(alloc: Global, cause: &Cause) -> Result<String, AllocError>
-    ensures { IfOk result (λ line. string_bytes line ≡ cause_line cause.now) }
+/// The line of a fault, where it has one.
+pub fn line_of_cause(alloc: Global, cause: &Cause) -> Result<Option<String>, AllocError>
+    ensures { IfOk result (λ line. option_map string_bytes line ≡ (row_of cause.now).line) }
 {
     match cause {
-        Cause::Usage { word } => format!(in alloc; "rvuser: usage: word {word}\n"),
-        Cause::NoProgram(program) => line(alloc, "rvuser: no file ", program.as_str()),
+        Cause::Usage { word } => Ok(Some(format!(in alloc; "rvuser: usage: word {word}\n")?)),
+        Cause::NoProgram(program) => {
+            Ok(Some(line(alloc, "rvuser: no file ", program.as_str())?))
+        }
         Cause::Elf(fault) => {
             let text = text_of_fault(alloc, fault)?;
-            line(alloc, "rvuser: not runnable: ", text.as_str())
+            Ok(Some(line(alloc, "rvuser: not runnable: ", text.as_str())?))
         }
         Cause::StackTooLong { size } => {
-            format!(in alloc; "rvuser: stack texts of {size} bytes\n")
+            Ok(Some(format!(in alloc; "rvuser: stack texts of {size} bytes\n")?))
         }
-        Cause::PagesFull { wanted } => format!(in alloc; "rvuser: {wanted} pages wanted\n"),
+        Cause::PagesFull { wanted } => Ok(Some(format!(in alloc;
+            "rvuser: {wanted} pages wanted\n"
+        )?)),
         Cause::ReadFault(part) => {
             let text = text_of_part(alloc, part)?;
-            line(alloc, "rvuser: read failed: ", text.as_str())
+            Ok(Some(line(alloc, "rvuser: read failed: ", text.as_str())?))
         }
-        Cause::WriteFault(part) => {
-            let text = text_of_part(alloc, part)?;
-            line(alloc, "rvuser: write failed: ", text.as_str())
-        }
-        Cause::Memory => Ok(String::new(alloc)),
+        Cause::WriteFault(part) => line_of_write(alloc, part),
+        Cause::Memory => Ok(None),
     }
+}
+
+/// The line of a failed write. There is none of the notes', which is where it would stand.
+fn line_of_write(alloc: Global, part: &Part) -> Result<Option<String>, AllocError>
+    ensures { IfOk result (λ line. option_map string_bytes line ≡ (row_of (Cause.WriteFault part.now)).line) }
+{
+    let text = match part {
+        Part::Folder => text_of_part(alloc, part)?,
+        Part::Device(_) => text_of_part(alloc, part)?,
+        Part::Notes => return Ok(None),
+    };
+    Ok(Some(line(alloc, "rvuser: write failed: ", text.as_str())?))
 }
 
 /// A line of two texts.

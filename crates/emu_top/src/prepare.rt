@@ -1,28 +1,28 @@
-//! From the words and the folder to the file that is to be run.
+//! From the words and the folder to the file that is to be run. Each part answers a fault of its own.
 
-ghost use Rattle.std.specs.Prelude.{◌≡◌, ◌↔◌, ◌∷◌, ℕ, List, false, Err, IsTrue, map, IfOk, IfErr, OnOk};
-ghost use Rattle.cli_words.specs.Answer.{plan_asked};
+ghost use Rattle.std.specs.Prelude.{◌≡◌, ◌↔◌, ◌∷◌, ℕ, List, false, IsTrue, map, IfOk, IfErr, OnOk};
+ghost use Rattle.cli_words.specs.Answer.{plan_asked, IsFaultOf};
 ghost use Rattle.cli_words.specs.Command.{IsAsked};
 ghost use Rattle.std.specs.String.{string_bytes};
-ghost use Rattle.elf_file.specs.Reading.{image};
-ghost use Rattle.emu_top.specs.Complete.{ReadsStill};
-ghost use Rattle.emu_top.specs.Files.{NamesFile};
-ghost use Rattle.emu_top.specs.Loading.{IsLaunch, IsLoaded, IsNoProgram, IsUnloaded, IsUnread, NotLoaded, load_fault};
-ghost use Rattle.emu_top.specs.Solo.{is_reserved as reserved, HasProgram, Found, Unprepared};
+ghost use Rattle.emu_top.specs.Causes.{AtLoading, StillAt, tabled};
+ghost use Rattle.image_store.specs.Files.{NamesFile};
+ghost use Rattle.emu_top.specs.Loading.{NotLoaded, load_fault};
+ghost use Rattle.emu_top.specs.Solo.{is_reserved as reserved, HasProgram, Found};
 
-use crate::cause::{Cause, Part};
-use crate::folder::{Folder, FolderError, Kind, Listed};
-use crate::memory_folder::is_same;
 use cli_words::{Order, Plan, WordsFault, read};
-use elf_file::{Elf, ElfFault};
+use elf_file::Elf;
 use file_tree::Text;
+use image_store::{Folder, FolderError, Kind, Listed};
 use std::alloc::{AllocError, Global};
 
 /// Why no program was loaded.
-#[derive(Clone, Copy, Debug, PartialEq, Eq)]
+#[derive(Drop)]
 pub enum LoadFault {
-    NoProgram,
+    /// The folder has no file of this name that could be run.
+    NoProgram(Text),
+    /// Reading the folder failed.
     ReadFault,
+    /// Want of memory.
     Memory,
 }
 
@@ -36,65 +36,54 @@ pub struct Launch {
     pub budget: u32,
 }
 
-/// What the words ask for, and the file that they name in the folder. Only the program is read.
-pub fn prepare<F: Folder>(alloc: Global, words: &[String], folder: &mut F) -> Result<Launch, Cause>
-    ensures ok { IfOk result (IsLaunch (F.tree folder.old) (map string_bytes words.now)) }
-    ensures cause { IfErr result (Unprepared (F.tree folder.old) (F.failed_reads folder.old) (F.failed_reads folder.new) (map string_bytes words.now)) }
-    ensures tree { F.tree folder.new ≡ F.tree folder.old }
-    ensures still { OnOk result (F.failed_reads folder.new ≡ F.failed_reads folder.old) }
-    ensures quiet { IfErr result (λ cause. ReadsStill cause (F.failed_reads folder.old) (F.failed_reads folder.new)) }
-{
-    let plan = match plan_of(alloc, words) {
-        Ok(plan) => plan,
-        Err(cause) => return Err(cause),
-    };
-    let elf = match elf_of(alloc, &plan, folder) {
-        Ok(elf) => elf,
-        Err(cause) => return Err(cause),
-    };
-    match launch_of(plan, elf) {
-        Ok(launch) => Ok(launch),
-        Err(_) => Err(Cause::Memory),
-    }
-}
-
 /// The plan of the words.
-fn plan_of(alloc: Global, words: &[String]) -> Result<Plan, Cause>
+pub fn plan_of(alloc: Global, words: &[String]) -> Result<Plan, WordsFault>
     ensures ok { IfOk result (λ plan. IsAsked (map string_bytes words.now) (plan_asked plan)) }
-    ensures cause { IfErr result (IsUnread (map string_bytes words.now)) }
+    ensures fault { IfErr result (IsFaultOf (map string_bytes words.now)) }
 {
     match read(alloc, words) {
         Ok(Order::Solo(plan)) => Ok(plan),
-        Err(WordsFault::At(word)) => Err(Cause::Usage { word }),
-        Err(WordsFault::Memory) => Err(Cause::Memory),
+        Err(fault) => Err(fault),
     }
 }
 
-/// The file of a plan.
-#[tactic(auto, using(crate::proofs::TopFacts::gives_fault))]
-fn elf_of<F: Folder>(alloc: Global, plan: &Plan, folder: &mut F) -> Result<Elf, Cause>
-    ensures ok { IfOk result (λ elf. IsLoaded (F.tree folder.old) plan.now.program (image elf)) }
-    ensures cause { IfErr result (IsUnloaded (F.tree folder.old) (F.failed_reads folder.old) (F.failed_reads folder.new) plan.now.program) }
+/// Lists the folder, and reads the program's bytes. Nothing else is read.
+#[tactic(auto, using(crate::proofs::CompleteFacts::load_still))]
+pub fn load<F: Folder>(alloc: Global, folder: &mut F, program: &str) -> Result<Vec<u8>, LoadFault>
+    ensures ok { IfOk result (λ bytes. Found (F.tree folder.old) program.now bytes.items) }
+    ensures fault { IfErr result (NotLoaded (F.tree folder.old) (F.failed_reads folder.old) (F.failed_reads folder.new) program.now) }
     ensures tree { F.tree folder.new ≡ F.tree folder.old }
     ensures still { OnOk result (F.failed_reads folder.new ≡ F.failed_reads folder.old) }
-    ensures quiet { IfErr result (λ cause. ReadsStill cause (F.failed_reads folder.old) (F.failed_reads folder.new)) }
+    ensures quiet { IfErr result (λ fault. StillAt (tabled (AtLoading fault)) (F.failed_reads folder.old) (F.failed_reads folder.new)) }
 {
-    let program = plan.program.as_str();
-    let bytes = match load(alloc, folder, program) {
-        Ok(bytes) => bytes,
-        Err(LoadFault::NoProgram) => return Err(no_program(alloc, program)),
-        Err(LoadFault::ReadFault) => return Err(Cause::ReadFault(Part::Folder)),
-        Err(LoadFault::Memory) => return Err(Cause::Memory),
+    let listing = match folder.list(alloc) {
+        Ok(listing) => listing,
+        Err(error) => return Err(fault_of(error)),
     };
-    match elf_file::read(alloc, &bytes) {
-        Ok(elf) => Ok(elf),
-        Err(ElfFault::Memory) => Err(Cause::Memory),
-        Err(fault) => Err(Cause::Elf(fault)),
+    if !has_program(&listing, program) {
+        return match Text::new(alloc, program) {
+            Ok(name) => Err(LoadFault::NoProgram(name)),
+            Err(_) => Err(LoadFault::Memory),
+        };
+    }
+    let mut bytes = Vec::new(alloc);
+    match folder.read(program, &mut bytes) {
+        Ok(()) => Ok(bytes),
+        Err(error) => Err(fault_of(error)),
+    }
+}
+
+fn fault_of(error: FolderError) -> LoadFault
+    ensures { result ≡ load_fault error }
+{
+    match error {
+        FolderError::Failed => LoadFault::ReadFault,
+        FolderError::Memory => LoadFault::Memory,
     }
 }
 
 /// The program's name goes in front of the arguments.
-fn launch_of(plan: Plan, elf: Elf) -> Result<Launch, AllocError>
+pub fn launch_of(plan: Plan, elf: Elf) -> Result<Launch, AllocError>
     ensures elf { IfOk result (λ launch. launch.elf ≡ elf) }
     ensures args { IfOk result (λ launch. launch.args.items ≡ plan.program ∷ plan.args.items) }
     ensures env { IfOk result (λ launch. launch.env ≡ plan.env) }
@@ -115,46 +104,6 @@ fn launch_of(plan: Plan, elf: Elf) -> Result<Launch, AllocError>
             budget,
         }),
         Err(_) => Err(AllocError),
-    }
-}
-
-fn no_program(alloc: Global, program: &str) -> Cause
-    ensures { IsNoProgram program.now result }
-{
-    match Text::new(alloc, program) {
-        Ok(text) => Cause::NoProgram(text),
-        Err(_) => Cause::Memory,
-    }
-}
-
-/// Lists the folder, and reads the program's bytes.
-fn load<F: Folder>(alloc: Global, folder: &mut F, program: &str) -> Result<Vec<u8>, LoadFault>
-    ensures ok { IfOk result (λ bytes. Found (F.tree folder.old) program.now bytes.items) }
-    ensures fault { IfErr result (NotLoaded (F.tree folder.old) (F.failed_reads folder.old) (F.failed_reads folder.new) program.now) }
-    ensures tree { F.tree folder.new ≡ F.tree folder.old }
-    ensures still { OnOk result (F.failed_reads folder.new ≡ F.failed_reads folder.old) }
-    ensures quiet { result ≡ Err LoadFault.NoProgram → F.failed_reads folder.new ≡ F.failed_reads folder.old }
-{
-    let listing = match folder.list(alloc) {
-        Ok(listing) => listing,
-        Err(error) => return Err(fault_of(error)),
-    };
-    if !has_program(&listing, program) {
-        return Err(LoadFault::NoProgram);
-    }
-    let mut bytes = Vec::new(alloc);
-    match folder.read(program, &mut bytes) {
-        Ok(()) => Ok(bytes),
-        Err(error) => Err(fault_of(error)),
-    }
-}
-
-fn fault_of(error: FolderError) -> LoadFault
-    ensures { result ≡ load_fault error }
-{
-    match error {
-        FolderError::Failed => LoadFault::ReadFault,
-        FolderError::Memory => LoadFault::Memory,
     }
 }
 
@@ -180,4 +129,11 @@ fn is_listed(listing: &[Listed], path: &str) -> bool
         }
     }
     false
+}
+
+/// Whether two texts are equal.
+fn is_same(one: &str, other: &str) -> bool
+    ensures { IsTrue result ↔ (one.now ≡ other.now) }
+{
+    one == other
 }

@@ -1,5 +1,5 @@
 ghost use Rattle.std.specs.Prelude.{◌≡◌, ℕ, List, Option, OnOk, OnErr};
-ghost use Rattle.emu_top.specs.Told.{more, HasCause, HoldsBeginning};
+ghost use Rattle.told.specs.Told.{more, HasCause, HoldsBeginning};
 
 /// A sink could not take what was put into it.
 #[derive(Clone, Copy, Debug, PartialEq, Eq)]

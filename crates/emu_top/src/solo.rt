@@ -1,10 +1,11 @@
 //! The schedule of `solo`: one step after another, each followed by what it wrote.
 
+ghost use Rattle.file_table.specs.State.{outputs_of};
 ghost use Rattle.std.specs.Prelude.{◌≡◌, ◌≤◌, ◌<◌, ◌+◌, ◌^◌, ◌++◌, ◌∷◌, [], ℕ, None, Some, Err, map, length, take, slice_index, slice_index_or, slice_set, OnOk, OnErr, IfOk, IfErr, IfSome, IfNone};
 ghost use Rattle.guest_core.specs.Event.{event_after};
 ghost use Rattle.guest_core.specs.Machine.{first_thread};
 ghost use Rattle.host_calls.specs.Owes.{Grows};
-ghost use Rattle.emu_top.specs.Told.{more, Rose};
+ghost use Rattle.told.specs.Told.{more, Rose};
 ghost use Rattle.emu_top.specs.Sending.{AreUnread, NoneFell, OthersStill};
 ghost use Rattle.emu_top.specs.Running.{OneLives, WentAhead, Stepped, KeepsSent, Halted, Ended, Stopped};
 
@@ -41,7 +42,7 @@ fn advance(core: &mut Core, journal: &mut Journal) -> Result<(), AllocError>
     requires count { length journal.old.events + 1 < 2 ^ 32 }
     ensures event { OnOk result (event_after core.old (Event.Step first_thread) ≡ Some core.new) }
     ensures noted { OnOk result (journal.new.events ≡ journal.old.events ++ Event.Step first_thread ∷ []) }
-    ensures outputs { OnOk result (Grows core.old.shared.files.outputs core.new.shared.files.outputs) }
+    ensures outputs { OnOk result (Grows (outputs_of core.old.shared.files) (outputs_of core.new.shared.files)) }
     ensures one { OneLives core.new }
     ensures stays { OnErr result (core.new ≡ core.old) }
     ensures unnoted { OnErr result (journal.new.events ≡ journal.old.events) }
@@ -76,9 +77,9 @@ fn send<D: Device>(devices: &mut Vec<D>, device: usize, bytes: &[u8]) -> Result<
 
 /// The lengths of the outputs.
 fn lengths(core: &Core) -> [usize; MOST_DEVICES]
-    requires { length core.now.shared.files.outputs ≤ 8 }
-    ensures { (device : ℕ) → device < length core.now.shared.files.outputs
-        → slice_index result device ≡ length (slice_index_or core.now.shared.files.outputs device []) }
+    requires { length (outputs_of core.now.shared.files) ≤ 8 }
+    ensures { (device : ℕ) → device < length (outputs_of core.now.shared.files)
+        → slice_index result device ≡ length (slice_index_or (outputs_of core.now.shared.files) device []) }
 {
     let mut lengths = [0; MOST_DEVICES];
     for device in 0..core.devices() {
@@ -89,11 +90,11 @@ fn lengths(core: &Core) -> [usize; MOST_DEVICES]
 
 /// The first device whose output is longer than it was.
 fn longer(core: &Core, before: &[usize; MOST_DEVICES]) -> Option<usize>
-    requires { length core.now.shared.files.outputs ≤ 8 }
-    ensures within { IfSome result (λ device. device < length core.now.shared.files.outputs) }
-    ensures longer { IfSome result (λ device. slice_index before.now device < length (slice_index_or core.now.shared.files.outputs device [])) }
-    ensures none { IfNone result ((device : ℕ) → device < length core.now.shared.files.outputs
-        → length (slice_index_or core.now.shared.files.outputs device []) ≤ slice_index before.now device) }
+    requires { length (outputs_of core.now.shared.files) ≤ 8 }
+    ensures within { IfSome result (λ device. device < length (outputs_of core.now.shared.files)) }
+    ensures longer { IfSome result (λ device. slice_index before.now device < length (slice_index_or (outputs_of core.now.shared.files) device [])) }
+    ensures none { IfNone result ((device : ℕ) → device < length (outputs_of core.now.shared.files)
+        → length (slice_index_or (outputs_of core.now.shared.files) device []) ≤ slice_index before.now device) }
 {
     for device in 0..core.devices() {
         if before[device] < core.output(device).len() {
@@ -120,15 +121,15 @@ fn turn<D: Device>(run: &mut Run<D>) -> Result<(), Halt>
     requires lives { run.old.core.end ≡ None }
     requires one { OneLives run.old.core }
     requires count { length run.old.journal.events + 1 < 2 ^ 32 }
-    requires devices { length run.old.devices.items ≡ length run.old.core.shared.files.outputs }
-    requires few { length run.old.core.shared.files.outputs ≤ 8 }
+    requires devices { length run.old.devices.items ≡ length (outputs_of run.old.core.shared.files) }
+    requires few { length (outputs_of run.old.core.shared.files) ≤ 8 }
     ensures one { OneLives run.new.core }
     ensures stepped { OnOk result (Stepped run.old run.new) }
     ensures sent { OnOk result (KeepsSent D.held run.old run.new) }
     ensures halted { IfErr result (λ halt. Halted D.held D.failed_writes halt run.old run.new) }
     ensures none_fell { NoneFell (map D.failed_writes run.old.devices.items) (map D.failed_writes run.new.devices.items) }
     ensures devices { length run.new.devices.items ≡ length run.old.devices.items }
-    ensures outputs { length run.new.core.shared.files.outputs ≡ length run.old.core.shared.files.outputs }
+    ensures outputs { length (outputs_of run.new.core.shared.files) ≡ length (outputs_of run.old.core.shared.files) }
     ensures budget { run.new.journal.budget ≡ run.old.journal.budget }
     ensures unread { AreUnread D.left D.failed_reads run.old.devices.items run.new.devices.items }
     ensures still { OnOk result (map D.failed_writes run.new.devices.items ≡ map D.failed_writes run.old.devices.items) }
@@ -154,8 +155,8 @@ fn turn<D: Device>(run: &mut Run<D>) -> Result<(), Halt>
 pub fn run_to_end<D: Device>(run: &mut Run<D>) -> Result<End, Halt>
     requires fresh { run.old.journal.events ≡ [] }
     requires one { OneLives run.old.core }
-    requires devices { length run.old.devices.items ≡ length run.old.core.shared.files.outputs }
-    requires few { length run.old.core.shared.files.outputs ≤ 8 }
+    requires devices { length run.old.devices.items ≡ length (outputs_of run.old.core.shared.files) }
+    requires few { length (outputs_of run.old.core.shared.files) ≤ 8 }
     ensures ended { IfOk result (λ end. Ended D.held end run.old run.new) }
     ensures stopped { IfErr result (λ halt. Stopped D.held D.failed_writes halt run.old run.new) }
     ensures none_fell { NoneFell (map D.failed_writes run.old.devices.items) (map D.failed_writes run.new.devices.items) }

@@ -1,27 +1,32 @@
 //! The top call of `solo`.
 
+ghost use Rattle.file_table.specs.State.{outputs_of};
 ghost use Rattle.std.specs.Prelude.{◌≡◌, ◌≢◌, ◌≤◌, ◌<◌, [], map, length, Ok, Err, IfOk, IfErr, MatchResult, OnOk};
 ghost use Rattle.std.specs.String.{string_bytes};
 ghost use Rattle.emu_top.specs.Sending.{AreUnread, sent};
-ghost use Rattle.emu_top.specs.Complete.{IsRunnable, NoneRose, NothingFailed, ReadsStill};
+ghost use Rattle.emu_top.specs.Causes.{AtEvents, AtFile, AtLoading, AtStart, AtWords, Fails, Faults, ReadsStill, Stops, TellsFault, row_of, tabled};
+ghost use Rattle.emu_top.specs.Complete.{IsRunnable, NoneRose, NothingFailed};
+ghost use Rattle.emu_top.specs.Loading.{IsLaunch};
 ghost use Rattle.elf_file.specs.Reading.{image};
 ghost use Rattle.guest_core.specs.Kept.{Keeps};
 ghost use Rattle.guest_core.specs.Start.{program_of, Starts};
-ghost use Rattle.emu_top.specs.Notes.{cause_line, end_line, TellsEnd, TellsFault, EndsUntold, Tries};
-ghost use Rattle.emu_top.specs.Solo.{CoreFinishes, CoreStops, Finishes, IsCaused, Faults, fault_status, halt_cause, start_cause, status_of as end_status};
+ghost use Rattle.emu_top.specs.Notes.{end_line, TellsEnd, EndsUntold, TriesLine};
+ghost use Rattle.emu_top.specs.Solo.{CoreFinishes, CoreStops, Finishes, status_of as end_status};
 ghost use Rattle.emu_top.specs.Journal.{IsLawful};
 ghost use Rattle.emu_top.specs.Running.{OneLives};
 ghost use Rattle.emu_top.specs.declared.cause.Cause.TheVariants.{Memory as memory, Usage as usage};
 
 use crate::cause::{Cause, Part};
 use crate::device::Device;
-use crate::folder::Folder;
 use crate::journal::Journal;
 use crate::notes::{line_of_cause, line_of_end};
-use crate::prepare::{Launch, prepare};
+use crate::prepare::{Launch, LoadFault, launch_of, load, plan_of};
 use crate::sink::Sink;
 use crate::solo::{Halt, Run, run_to_end};
+use cli_words::WordsFault;
+use elf_file::ElfFault;
 use guest_core::{Core, End, StartFault, start};
+use image_store::Folder;
 use std::alloc::Global;
 
 /// The budget of a journal that no run was made for.
@@ -47,7 +52,7 @@ pub struct TopFault<D: Device> {
 impl<D: Device> TopFault<D> {
     /// The status with which the program ends. It takes no memory.
     pub fn status(&self) -> u8
-        ensures { result ≡ fault_status self.now.cause }
+        ensures { result ≡ (row_of self.now.cause).status }
     {
         self.cause.status()
     }
@@ -68,7 +73,7 @@ struct Stopped<D: Device> {
 ///
 /// It costs by the listing, by the size of the program's segments, by the 2,048 pages of its stack, and by the number of
 /// its steps, at most the budget.
-#[tactic(auto, using(crate::proofs::TopFacts::faults, crate::proofs::CompleteFacts::complete, crate::proofs::CompleteFacts::complete_told, crate::proofs::CompleteFacts::still_told, crate::proofs::CompleteFacts::still_as))]
+#[tactic(auto, using(crate::proofs::TopFacts::faults, crate::proofs::TopFacts::untold_faults, crate::proofs::CompleteFacts::complete, crate::proofs::CompleteFacts::still_told, crate::proofs::CompleteFacts::still_as))]
 pub fn solo_top<F: Folder, K: Sink, D: Device>(
     alloc: Global,
     words: &[String],
@@ -147,14 +152,12 @@ fn tell_fault<K: Sink, D: Device>(alloc: Global, fault: TopFault<D>, notes: &mut
     ensures journal { result.journal ≡ fault.journal }
     ensures devices { result.devices ≡ fault.devices }
 {
-    if let Cause::Memory = fault.cause {
-        return fault;
-    }
     match line_of_cause(alloc, &fault.cause) {
-        Ok(line) => {
+        Ok(Some(line)) => {
             let _ = notes.put(line.as_str().as_bytes());
             fault
         }
+        Ok(None) => fault,
         Err(_) => forgotten(fault),
     }
 }
@@ -162,14 +165,15 @@ fn tell_fault<K: Sink, D: Device>(alloc: Global, fault: TopFault<D>, notes: &mut
 /// Refuses a command line whose first wrong word has this index, and gives the status. `solo_top` does so itself for words
 /// that are texts; this is for a word that isn't UTF-8.
 pub fn refuse_words<K: Sink>(alloc: Global, word: usize, notes: &mut K) -> u8
-    ensures told { result ≡ 64 → Tries K.held K.failed_writes (cause_line (usage word)) notes.old notes.new }
+    ensures told { result ≡ 64 → TriesLine K.held K.failed_writes (row_of (usage word)).line notes.old notes.new }
     ensures forgotten { result ≢ 64 → (result ≡ 70) × (notes.new ≡ notes.old) }
 {
     match line_of_cause(alloc, &Cause::Usage { word }) {
-        Ok(line) => {
+        Ok(Some(line)) => {
             let _ = notes.put(line.as_str().as_bytes());
             64
         }
+        Ok(None) => unreachable!(),
         Err(_) => 70,
     }
 }
@@ -193,7 +197,7 @@ fn forgotten<D: Device>(fault: TopFault<D>) -> TopFault<D>
 }
 
 /// Runs the program that the words name, without a line on the notes.
-#[tactic(auto, using(crate::proofs::TopFacts::finishes, crate::proofs::TopFacts::is_caused, crate::proofs::CompleteFacts::still_as, crate::proofs::LawFacts::empty_lawful))]
+#[tactic(auto, using(crate::proofs::TopFacts::stops_untouched, crate::proofs::LaunchFacts::fails_start, crate::proofs::CompleteFacts::still_as, crate::proofs::LawFacts::empty_lawful))]
 fn attempt<F: Folder, D: Device>(
     alloc: Global,
     words: &[String],
@@ -202,7 +206,7 @@ fn attempt<F: Folder, D: Device>(
 ) -> Result<Finished<D>, TopFault<D>>
     requires { length devices.items ≤ 8 }
     ensures finished { IfOk result (λ f. Finishes D.held (F.tree folder.old) (map string_bytes words.now) devices.items f.end f.status f.journal f.devices.items) }
-    ensures caused { IfErr result (λ f. IsCaused D.held D.failed_writes (F.tree folder.old) (F.failed_reads folder.old) (F.failed_reads folder.new) (map string_bytes words.now) devices.items f.cause f.journal f.devices.items) }
+    ensures caused { IfErr result (λ f. Stops D.held D.failed_writes (F.tree folder.old) (F.failed_reads folder.old) (F.failed_reads folder.new) (map string_bytes words.now) devices.items (row_of f.cause).step f.journal f.devices.items) }
     ensures unread { MatchResult result
         (λ f. AreUnread D.left D.failed_reads devices.items f.devices.items)
         (λ f. AreUnread D.left D.failed_reads devices.items f.devices.items) }
@@ -217,11 +221,91 @@ fn attempt<F: Folder, D: Device>(
     };
     let core = match core_of(alloc, &launch, devices.as_slice().len()) {
         Ok(core) => core,
-        Err(fault) => return Err(untouched(alloc, cause_of(fault), devices)),
+        Err(fault) => return Err(untouched(alloc, cause_of_start(fault), devices)),
     };
     match execute(alloc, core, launch.budget, devices) {
         Ok(finished) => Ok(finished),
         Err(stopped) => Err(fault_of(stopped)),
+    }
+}
+
+/// What the words ask for, and the file that they name in the folder. Only the program is read.
+#[tactic(auto, using(crate::proofs::CompleteFacts::still_at, crate::proofs::CompleteFacts::still_as))]
+fn prepare<F: Folder>(alloc: Global, words: &[String], folder: &mut F) -> Result<Launch, Cause>
+    ensures ok { IfOk result (IsLaunch (F.tree folder.old) (map string_bytes words.now)) }
+    ensures cause { IfErr result (λ cause. Fails (F.tree folder.old) (F.failed_reads folder.old) (F.failed_reads folder.new) (map string_bytes words.now) (row_of cause).step) }
+    ensures tree { F.tree folder.new ≡ F.tree folder.old }
+    ensures still { OnOk result (F.failed_reads folder.new ≡ F.failed_reads folder.old) }
+    ensures quiet { IfErr result (λ cause. ReadsStill cause (F.failed_reads folder.old) (F.failed_reads folder.new)) }
+{
+    let plan = match plan_of(alloc, words) {
+        Ok(plan) => plan,
+        Err(fault) => return Err(cause_of_words(fault)),
+    };
+    let bytes = match load(alloc, folder, plan.program.as_str()) {
+        Ok(bytes) => bytes,
+        Err(fault) => return Err(cause_of_load(fault)),
+    };
+    let elf = match elf_file::read(alloc, &bytes) {
+        Ok(elf) => elf,
+        Err(fault) => return Err(cause_of_file(fault)),
+    };
+    match launch_of(plan, elf) {
+        Ok(launch) => Ok(launch),
+        Err(_) => Err(Cause::Memory),
+    }
+}
+
+/// The cause of words that were refused.
+fn cause_of_words(fault: WordsFault) -> Cause
+    ensures { (row_of result).step ≡ tabled (AtWords fault) }
+{
+    match fault {
+        WordsFault::At(word) => Cause::Usage { word },
+        WordsFault::Memory => Cause::Memory,
+    }
+}
+
+/// The cause of a program that wasn't loaded.
+fn cause_of_load(fault: LoadFault) -> Cause
+    ensures { (row_of result).step ≡ tabled (AtLoading fault) }
+{
+    match fault {
+        LoadFault::NoProgram(program) => Cause::NoProgram(program),
+        LoadFault::ReadFault => Cause::ReadFault(Part::Folder),
+        LoadFault::Memory => Cause::Memory,
+    }
+}
+
+/// The cause of bytes that are no file to be run.
+#[tactic(auto, using(crate::proofs::LaunchFacts::file_tabled))]
+fn cause_of_file(fault: ElfFault) -> Cause
+    ensures { (row_of result).step ≡ tabled (AtFile fault) }
+{
+    match fault {
+        ElfFault::Memory => Cause::Memory,
+        fault => Cause::Elf(fault),
+    }
+}
+
+/// The cause of a start that was refused.
+fn cause_of_start(fault: StartFault) -> Cause
+    ensures { (row_of result).step ≡ tabled (AtStart fault) }
+{
+    match fault {
+        StartFault::StackTooLong { size } => Cause::StackTooLong { size },
+        StartFault::PagesFull { wanted } => Cause::PagesFull { wanted },
+        StartFault::Memory => Cause::Memory,
+    }
+}
+
+/// The cause of a run that was stopped.
+fn cause_of_halt(halt: Halt) -> Cause
+    ensures { (row_of result).step ≡ tabled (AtEvents halt) }
+{
+    match halt {
+        Halt::Device(device) => Cause::WriteFault(Part::Device(device)),
+        Halt::Memory => Cause::Memory,
     }
 }
 
@@ -241,17 +325,6 @@ fn core_of(alloc: Global, launch: &Launch, devices: usize) -> Result<Core, Start
     )
 }
 
-/// The cause of a start that was refused.
-fn cause_of(fault: StartFault) -> Cause
-    ensures { result ≡ start_cause fault }
-{
-    match fault {
-        StartFault::StackTooLong { size } => Cause::StackTooLong { size },
-        StartFault::PagesFull { wanted } => Cause::PagesFull { wanted },
-        StartFault::Memory => Cause::Memory,
-    }
-}
-
 /// A fault before the start.
 fn untouched<D: Device>(alloc: Global, cause: Cause, devices: Vec<D>) -> TopFault<D>
     ensures cause { result.cause ≡ cause }
@@ -268,7 +341,7 @@ fn untouched<D: Device>(alloc: Global, cause: Cause, devices: Vec<D>) -> TopFaul
 
 /// The fault of a run that was stopped.
 fn fault_of<D: Device>(stopped: Stopped<D>) -> TopFault<D>
-    ensures cause { result.cause ≡ halt_cause stopped.halt }
+    ensures cause { (row_of result.cause).step ≡ tabled (AtEvents stopped.halt) }
     ensures journal { result.journal ≡ stopped.journal }
     ensures devices { result.devices ≡ stopped.devices }
 {
@@ -277,12 +350,8 @@ fn fault_of<D: Device>(stopped: Stopped<D>) -> TopFault<D>
         journal,
         devices,
     } = stopped;
-    let cause = match halt {
-        Halt::Device(device) => Cause::WriteFault(Part::Device(device)),
-        Halt::Memory => Cause::Memory,
-    };
     TopFault {
-        cause,
+        cause: cause_of_halt(halt),
         journal,
         devices,
     }
@@ -296,9 +365,9 @@ fn execute<D: Device>(
     devices: Vec<D>,
 ) -> Result<Finished<D>, Stopped<D>>
     requires one { OneLives core }
-    requires devices { length devices.items ≡ length core.shared.files.outputs }
+    requires devices { length devices.items ≡ length (outputs_of core.shared.files) }
     requires few { length devices.items ≤ 8 }
-    requires quiet { map D.held devices.items ≡ sent (map D.held devices.items) core.shared.files.outputs }
+    requires quiet { map D.held devices.items ≡ sent (map D.held devices.items) (outputs_of core.shared.files) }
     ensures finished { IfOk result (λ f. CoreFinishes D.held core budget devices.items f.end f.status f.journal f.devices.items) }
     ensures stopped { IfErr result (λ f. CoreStops D.held D.failed_writes core budget devices.items f.halt f.journal f.devices.items) }
     ensures unread { MatchResult result

@@ -3,6 +3,9 @@ pub mod CountFacts
 pub mod DescriptorFacts
 pub mod ListFacts
 pub mod MoveFacts
+pub mod OutputFacts
+pub mod PeekFacts
 pub mod PlaceFacts
+pub mod RoomFacts
 pub mod SoundFacts
 pub mod StartFacts

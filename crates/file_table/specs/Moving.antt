@@ -41,14 +41,33 @@ abbrev pub went_on : ℕ → Description → Files → Result (List ℕ) Errno �
 went_on number it files (Err errno) = Err (faults.Errno errno)
 went_on number it files (Ok bytes) = Ok (done (moved number (it.offset + length bytes) it files) bytes)
 
+abbrev pub stopped : {A : Type 0} → Errno → Result A FileFault
+stopped errno = Err (faults.Errno errno)
+
+abbrev pub faulted : {A : Type 0} → Result A Errno → Result A FileFault
+faulted (Err errno) = Err (faults.Errno errno)
+faulted (Ok value) = Ok value
+
 -- a device has no bytes yet
 abbrev pub read_target : Target → ℕ → Description → ℕ → Files → Result (Done (List ℕ)) FileFault
 read_target (targets.Node inode) number it size files = went_on number it files (file_read inode it.offset size files.tree)
 read_target (targets.Device device) number it size files =
     if never_waits it.flags then Err (faults.Errno EAGAIN) else Err faults.Block
 
-abbrev pub stopped : {A : Type 0} → Errno → Result A FileFault
-stopped errno = Err (faults.Errno errno)
+-- the bytes that a read would give, which moves nothing
+abbrev pub peek_target : Target → Description → ℕ → Files → Result (List ℕ) FileFault
+peek_target (targets.Node inode) it size files = faulted (file_read inode it.offset size files.tree)
+peek_target (targets.Device device) it size files =
+    if never_waits it.flags then Err (faults.Errno EAGAIN) else Err faults.Block
+
+unfoldable pub peek : ℕ → ℕ → Files → Result (List ℕ) FileFault
+peek fd size files =
+    with_open fd files (stopped EBADF)
+    (λ number it. if not (can_read it.flags) then stopped EBADF else peek_target it.target it size files)
+
+-- the offset goes on
+unfoldable pub advanced : ℕ → ℕ → Files → Files
+advanced fd count files = with_open fd files files (λ number it. moved number (it.offset + count) it files)
 
 unfoldable pub read : ℕ → ℕ → Files → Result (Done (List ℕ)) FileFault
 read fd size files =
@@ -143,16 +162,16 @@ seek fd offset whence files =
     if nat_lt 2 whence then Err EINVAL
     else with_open fd files (Err EBADF) (λ number it. sought it.target number it offset whence files)
 
+abbrev pub cut_kind : Option Kind → ℕ → ℕ → ℕ → Files → Result Files Errno
+cut_kind None inode flags size files = Err EINVAL
+cut_kind (Some Dir) inode flags size files = Err EINVAL
+cut_kind (Some File) inode flags size files =
+    if not (can_write flags) then Err EINVAL
+    else and_then (truncated inode size files.tree) (λ tree. Ok (with_tree tree files))
+
 abbrev pub cut : Target → ℕ → ℕ → Files → Result Files Errno
 cut (targets.Device device) flags size files = Err EINVAL
-cut (targets.Node inode) flags size files = by_kind (kind_in files.tree inode)
-  where
-    by_kind : Option Kind → Result Files Errno
-    by_kind None = Err EINVAL
-    by_kind (Some Dir) = Err EINVAL
-    by_kind (Some File) =
-        if not (can_write flags) then Err EINVAL
-        else and_then (truncated inode size files.tree) (λ tree. Ok (with_tree tree files))
+cut (targets.Node inode) flags size files = cut_kind (kind_in files.tree inode) inode flags size files
 
 -- a file that is open for writing is cut, or filled up with zeros
 unfoldable pub truncate : ℕ → ℕ → Files → Result Files Errno

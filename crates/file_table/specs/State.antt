@@ -1,7 +1,7 @@
 -- The descriptors of a process, what they name, its devices and its tree of files.
 -- Source: open(2): a descriptor names an open file description, and several may name one. The numbers of descriptions are
 -- the project's own.
-use Rattle.std.specs.Prelude.{ℕ, Bool, false, nat_lt, if◌then◌else◌, List, [], ◌∷◌, ◌++◌, length, get_or, set, Option, Some, None}
+use Rattle.std.specs.Prelude.{ℕ, Bool, false, nat_lt, if◌then◌else◌, List, [], ◌∷◌, ◌++◌, length, get_or, map, set, Option, Some, None}
 use Rattle.file_tree.specs.Nodes.{Tree}
 use Rattle.file_table.specs.declared.state.Descriptor.{Descriptor}
 use Rattle.file_table.specs.declared.state.Description.{Description}
@@ -41,6 +41,10 @@ chosen (Some (number, description)) closed go = go number description
 -- what is done with it, and what where the descriptor isn't open
 abbrev pub with_open : {A : Type 0} → ℕ → Files → A → (ℕ → Description → A) → A
 with_open fd files closed go = chosen (open_as fd files) closed go
+
+-- what was written to each device
+abbrev pub outputs_of : Files → List (List ℕ)
+outputs_of files = map (λ device. device.output) files.devices
 
 abbrev pub output_of : Option Device → List ℕ
 output_of None = []

@@ -2,6 +2,7 @@
 
 ghost use Rattle.std.specs.Prelude.{◌≡◌, ◌≢◌, ◌<◌, ◌≤◌, ◌&&◌, not, nat_le, is_some, ℕ, true, false, drop, length, get_or, set, slice_get, Option, Some, None, IsSome, Result, Ok, Err, IfOk, IfSome, MatchOption, MatchResult};
 ghost use Rattle.file_tree.specs.declared.errno.Errno.TheVariants.{EBADF, EINVAL, EMFILE};
+ghost use Rattle.file_tree.specs.Nodes.{Has};
 ghost use Rattle.file_table.specs.Descriptors.{another, close as closes, closed, dup as dups, dup_to as dups_to, free_from, free_place, is_named, lost, marked, names, swept, what, what_in, with_description, with_descriptor, with_flags};
 ghost use Rattle.file_table.specs.Due.{AnswersAlways, LeavesAlways};
 ghost use Rattle.file_table.specs.Sound.{IsThere};
@@ -154,6 +155,7 @@ impl Files {
     pub fn what(&self, fd: u64) -> Option<Opened>
         ensures what { result ≡ what fd self.now }
         ensures is_open { is_some result ≡ is_some (at self.now.descriptors fd) }
+        ensures there { IfSome result (λ it. IfSome it.node (Has self.now.tree)) }
     {
         match at(self.descriptors.as_slice(), fd) {
             Some(descriptor) => {

@@ -1,10 +1,10 @@
-ghost use Rattle.std.specs.Prelude.{◌≡◌, ◌<◌, ◌≤◌, ℕ, length, get_or, slice_get, Some, IfOk, IfSome, MatchOption};
+ghost use Rattle.std.specs.Prelude.{◌≡◌, ◌<◌, ◌≤◌, ℕ, [], length, get_or, slice_get, Some, IfOk, IfSome, MatchOption};
 ghost use Rattle.file_tree.specs.declared.kind.Kind.TheVariants.{File};
 ghost use Rattle.file_tree.specs.Nodes.{kind_in, holds_in};
 ghost use Rattle.file_table.specs.Descriptors.{no_device};
 ghost use Rattle.file_table.specs.Opening.{started};
 ghost use Rattle.file_table.specs.Sound.{IsSound};
-ghost use Rattle.file_table.specs.State.{at, lives_by};
+ghost use Rattle.file_table.specs.State.{at, lives_by, outputs_of};
 
 use crate::state::{Description, Descriptor, Device};
 use file_tree::Tree;
@@ -55,10 +55,22 @@ impl Files {
         &self.tree
     }
 
+    /// The allocator of the table.
+    pub fn alloc(&self) -> Global {
+        *self.descriptors.allocator()
+    }
+
+    /// How many devices there are, those too that live no more.
+    pub fn devices(&self) -> usize
+        ensures { result ≡ length (outputs_of self.now) }
+    {
+        self.devices.len()
+    }
+
     /// What was written to a device, in order.
     pub fn output(&self, device: usize) -> &[u8]
-        requires { device < length self.now.devices }
-        ensures { result.now ≡ (get_or self.now.devices device no_device).output }
+        requires { device < length (outputs_of self.now) }
+        ensures { result.now ≡ get_or (outputs_of self.now) device [] }
     {
         self.devices[device].output.as_slice()
     }

@@ -1,15 +1,15 @@
 //! Bytes that are read and written, and offsets.
 
-ghost use Rattle.std.specs.Prelude.{◌≡◌, ℕ, ◌+◌, ◌<◌, ◌≤◌, max, true, ◌+ℤ◌, pos, length, slice_get, Some, Ok, Err, IfOk, OnOk};
+ghost use Rattle.std.specs.Prelude.{◌≡◌, ℕ, ◌+◌, ◌^◌, ◌<◌, ◌≤◌, max, true, ◌+ℤ◌, pos, length, slice_get, Some, Ok, Err, IfOk, IfErr, IfSome, OnOk};
 ghost use Rattle.file_tree.specs.declared.kind.Kind.TheVariants.{File};
 ghost use Rattle.file_tree.specs.Files.{truncated};
 ghost use Rattle.file_tree.specs.Nodes.{Has, kind_in};
 ghost use Rattle.file_table.specs.declared.state.Target.TheVariants as targets;
 ghost use Rattle.file_table.specs.Due.{Answers, AnswersAlways, Leaves, LeavesTree, Reads, ReadsAlways, done};
 ghost use Rattle.file_table.specs.Flags.{can_read, can_write};
-ghost use Rattle.file_table.specs.Moving.{counted_from, cut, file_read, file_written, lawful, past, place_of, read, read_at, read_target, read_target_at, seek, truncate, with_devices, with_output, write, write_at, write_target, write_target_at};
+ghost use Rattle.file_table.specs.Moving.{advanced, counted_from, cut, file_read, file_written, lawful, past, peek, peek_target, place_of, read, read_at, read_target, read_target_at, seek, truncate, with_devices, with_output, write, write_at, write_target, write_target_at};
 ghost use Rattle.file_table.specs.Sound.{IsThere};
-ghost use Rattle.file_table.specs.State.{at, lives_by};
+ghost use Rattle.file_table.specs.State.{at, lives_by, open_as};
 
 use crate::fault::FileFault;
 use crate::files::Files;
@@ -45,6 +45,77 @@ impl Files {
                 self.read_target(number, it, into)
             }
             None => Err(FileFault::Errno(Errno::EBADF)),
+        }
+    }
+
+    /// The bytes that `read` would give for a buffer of this size, as they stand in the file; nothing moves. It takes constant
+    /// time, and is refused as `read` is.
+    ///
+    /// References: read(2).
+    #[tactic(auto, unfolding(crate::specs::Moving::peek))]
+    pub fn peek(&self, fd: u64, size: u64) -> Result<&[u8], FileFault>
+        ensures bytes { IfOk result (λ bytes. peek fd size self.now ≡ Ok bytes.now) }
+        ensures fault { IfErr result (λ fault. peek fd size self.now ≡ Err fault) }
+        ensures low { IfOk result (λ bytes. IfSome (open_as fd self.now) (λ it. it.1.offset + length bytes.now < 2 ^ 64)) }
+        ensures few { IfOk result (λ bytes. length bytes.now ≤ size) }
+    {
+        match self.open_as(fd) {
+            Some((_, it)) => {
+                if !can_read(it.flags) {
+                    return Err(FileFault::Errno(Errno::EBADF));
+                }
+                self.peek_target(it, size)
+            }
+            None => Err(FileFault::Errno(Errno::EBADF)),
+        }
+    }
+
+    /// The bytes of what a description is open for.
+    fn peek_target(&self, it: Description, size: u64) -> Result<&[u8], FileFault>
+        requires { IsThere self.now.tree self.now.devices it.target }
+        ensures bytes { IfOk result (λ bytes. peek_target it.target it size self.now ≡ Ok bytes.now) }
+        ensures fault { IfErr result (λ fault. peek_target it.target it size self.now ≡ Err fault) }
+        ensures low { IfOk result (λ bytes. it.offset + length bytes.now < 2 ^ 64) }
+        ensures few { IfOk result (λ bytes. length bytes.now ≤ size) }
+    {
+        match it.target {
+            Target::Node(inode) => match self.file_part(inode, it.offset, size) {
+                Ok(bytes) => Ok(bytes),
+                Err(errno) => Err(FileFault::Errno(errno)),
+            },
+            Target::Device(_) => {
+                if it.flags & NO_WAIT == NO_WAIT {
+                    return Err(FileFault::Errno(Errno::EAGAIN));
+                }
+                Err(FileFault::Block)
+            }
+        }
+    }
+
+    /// The bytes of an entry of the tree.
+    fn file_part(&self, inode: Inode, offset: u64, size: u64) -> Result<&[u8], Errno>
+        requires { Has self.now.tree inode }
+        ensures bytes { IfOk result (λ bytes. file_read inode offset size self.now.tree ≡ Ok bytes.now) }
+        ensures fault { IfErr result (λ errno. file_read inode offset size self.now.tree ≡ Err errno) }
+        ensures low { IfOk result (λ bytes. offset + length bytes.now < 2 ^ 64) }
+        ensures few { IfOk result (λ bytes. length bytes.now ≤ size) }
+    {
+        match self.tree.kind(inode) {
+            Kind::File => Ok(self.tree.part(inode, offset, size)),
+            Kind::Dir => Err(Errno::EISDIR),
+        }
+    }
+
+    /// The description's offset goes on by so many bytes; nothing happens where the descriptor isn't open.
+    ///
+    /// References: read(2).
+    #[tactic(auto, unfolding(crate::specs::Moving::advanced))]
+    pub fn advance(&mut self, fd: u64, count: u64)
+        requires { IfSome (open_as fd self.old) (λ it. it.1.offset + count < 2 ^ 64) }
+        ensures { self.new ≡ advanced fd count self.old }
+    {
+        if let Some((number, it)) = self.open_as(fd) {
+            self.change(number, it, it.flags, it.offset + count);
         }
     }
 
@@ -114,6 +185,30 @@ impl Files {
         }
     }
 
+    /// The bytes that `read_at` would give for a buffer of this size, as they stand in the file. It takes constant time, and is
+    /// refused as `read_at` is.
+    ///
+    /// References: pread(2).
+    #[tactic(auto, unfolding(crate::specs::Moving::read_at))]
+    pub fn peek_at(&self, fd: u64, offset: u64, size: u64) -> Result<&[u8], Errno>
+        ensures bytes { IfOk result (λ bytes. read_at fd offset size self.now ≡ Ok bytes.now) }
+        ensures fault { IfErr result (λ errno. read_at fd offset size self.now ≡ Err errno) }
+        ensures few { IfOk result (λ bytes. length bytes.now ≤ size) }
+    {
+        match self.open_as(fd) {
+            Some((_, it)) => {
+                if !can_read(it.flags) {
+                    return Err(Errno::EBADF);
+                }
+                match it.target {
+                    Target::Node(inode) => self.file_part(inode, offset, size),
+                    Target::Device(_) => Err(Errno::ESPIPE),
+                }
+            }
+            None => Err(Errno::EBADF),
+        }
+    }
+
     /// Writes bytes at the description's offset, or at the end of a file where it appends, whole or not at all. The offset
     /// is behind them then, and stays where there are none. A device takes all bytes behind what it has. It costs by the
     /// number of bytes, and of the zeros in front of them where the offset is behind the file's end; its memory is theirs.
@@ -124,7 +219,8 @@ impl Files {
     /// References: write(2).
     #[tactic(auto, unfolding(crate::specs::Moving::write))]
     pub fn write(&mut self, fd: u64, bytes: &[u8]) -> Result<usize, FileFault>
-        ensures { Answers result (write fd bytes.now self.old) self.old self.new }
+        ensures answer { Answers result (write fd bytes.now self.old) self.old self.new }
+        ensures all { IfOk result (λ count. count ≡ length bytes.now) }
     {
         match self.open_as(fd) {
             Some((number, it)) => {
@@ -150,7 +246,8 @@ impl Files {
     ) -> Result<usize, FileFault>
         requires at { at self.old.descriptions number ≡ Some it }
         requires there { Has self.old.tree inode }
-        ensures { Answers result (write_target (targets.Node inode) number it bytes.now self.old) self.old self.new }
+        ensures answer { Answers result (write_target (targets.Node inode) number it bytes.now self.old) self.old self.new }
+        ensures all { IfOk result (λ count. count ≡ length bytes.now) }
     {
         let place = self.place_of(it.flags, inode, it.offset);
         match self.file_write(inode, place, bytes) {
@@ -193,7 +290,8 @@ impl Files {
     /// Writes to a device.
     fn write_device(&mut self, device: usize, bytes: &[u8]) -> Result<usize, FileFault>
         requires { lives_by (slice_get self.old.devices device) ≡ true }
-        ensures { Answers result (Ok (done (with_devices (with_output device bytes.now self.old.devices) self.old) (length bytes.now))) self.old self.new }
+        ensures answer { Answers result (Ok (done (with_devices (with_output device bytes.now self.old.devices) self.old) (length bytes.now))) self.old self.new }
+        ensures all { IfOk result (λ count. count ≡ length bytes.now) }
     {
         match self.devices[device].output.extend_from_slice(bytes) {
             Ok(()) => Ok(bytes.len()),
@@ -209,7 +307,8 @@ impl Files {
     /// References: pwrite(2).
     #[tactic(auto, unfolding(crate::specs::Moving::write_at))]
     pub fn write_at(&mut self, fd: u64, offset: u64, bytes: &[u8]) -> Result<usize, FileFault>
-        ensures { Answers result (write_at fd offset bytes.now self.old) self.old self.new }
+        ensures answer { Answers result (write_at fd offset bytes.now self.old) self.old self.new }
+        ensures all { IfOk result (λ count. count ≡ length bytes.now) }
     {
         match self.open_as(fd) {
             Some((_, it)) => {
@@ -234,7 +333,8 @@ impl Files {
         bytes: &[u8],
     ) -> Result<usize, FileFault>
         requires { Has self.old.tree inode }
-        ensures { Answers result (write_target_at (targets.Node inode) flags offset bytes.now self.old) self.old self.new }
+        ensures answer { Answers result (write_target_at (targets.Node inode) flags offset bytes.now self.old) self.old self.new }
+        ensures all { IfOk result (λ count. count ≡ length bytes.now) }
     {
         let place = self.place_of(flags, inode, offset);
         match self.file_write(inode, place, bytes) {
@@ -252,7 +352,8 @@ impl Files {
     /// References: lseek(2).
     #[tactic(auto, unfolding(crate::specs::Moving::seek))]
     pub fn seek(&mut self, fd: u64, offset: i64, whence: u64) -> Result<u64, Errno>
-        ensures { AnswersAlways result (seek fd offset whence self.old) self.old self.new }
+        ensures answer { AnswersAlways result (seek fd offset whence self.old) self.old self.new }
+        ensures low { IfOk result (λ to. to < 2 ^ 63) }
     {
         if whence > 2 {
             return Err(Errno::EINVAL);
@@ -368,7 +469,8 @@ fn past(old: u64, place: u64, count: usize) -> u64
 
 /// An offset that is counted from another one, if there may be such an offset.
 fn lawful(from: u64, offset: i64) -> Result<u64, Errno>
-    ensures { result ≡ lawful (pos from +ℤ offset) }
+    ensures to { result ≡ lawful (pos from +ℤ offset) }
+    ensures low { IfOk result (λ to. to < 2 ^ 63) }
 {
     let to = from as i128 + offset as i128;
     if to < 0 || to >= OFFSET_END as i128 {

@@ -58,8 +58,12 @@ impl Files {
         }
     }
 
-    /// Where a path begins.
-    pub(crate) fn base(&self, dir: i64, path: &[u8]) -> Result<Inode, Errno>
+    /// Where a path begins: at the root, or at the directory that a descriptor names. It costs a look-up of an entry.
+    ///
+    /// It is refused as `dir_of` is, where the path isn't absolute.
+    ///
+    /// References: openat(2).
+    pub fn base(&self, dir: i64, path: &[u8]) -> Result<Inode, Errno>
         ensures inode { result ≡ base dir path.now self.now }
         ensures there { IfOk result (λ inode. Has self.now.tree inode) }
     {

@@ -45,6 +45,18 @@ impl Content {
         self.bytes.len()
     }
 
+    /// The bytes from an offset on, at most so many.
+    pub(crate) fn part(&self, offset: u64, size: u64) -> &[u8]
+        ensures { result.now ≡ read_from offset size self.now }
+    {
+        let length = self.bytes.len() as u64;
+        if offset >= length {
+            return &[];
+        }
+        let end = offset + size.min(length - offset);
+        &self.bytes[offset as usize..end as usize]
+    }
+
     /// Copies bytes from an offset on, and tells how many.
     pub(crate) fn read_at(&self, offset: u64, into: &mut [u8]) -> usize
         ensures count { result ≡ length (read_from offset (length into.old) self.now) }

@@ -212,6 +212,16 @@ impl Node {
         }
     }
 
+    /// The bytes of a file from an offset on, at most so many.
+    pub(crate) fn part(&self, offset: u64, size: u64) -> &[u8]
+        ensures { result.now ≡ read_from offset size (bytes_of self.now.body) }
+    {
+        match &self.body {
+            Body::Bytes(content) => content.part(offset, size),
+            Body::Names(_) => &[],
+        }
+    }
+
     /// Copies bytes of a file from an offset on, and tells how many.
     pub(crate) fn read_at(&self, offset: u64, into: &mut [u8]) -> usize
         ensures count { result ≡ length (read_from offset (length into.old) (bytes_of self.now.body)) }

@@ -370,6 +370,17 @@ impl Tree {
         }
     }
 
+    /// A file's bytes from an offset on, at most so many, as they stand in the tree. It takes constant time.
+    pub fn part(&self, file: Inode, offset: u64, size: u64) -> &[u8]
+        requires { kind_in self.now file ≡ Some File }
+        ensures { result.now ≡ read_from offset size (file_bytes self.now.nodes file) }
+    {
+        match self.nodes.get(file) {
+            Some(node) => node.part(offset, size),
+            None => &[],
+        }
+    }
+
     /// Copies a file's bytes from an offset on, and tells how many. Its cost is in their number.
     pub fn read_at(&self, file: Inode, offset: u64, into: &mut [u8]) -> usize
         requires { kind_in self.now file ≡ Some File }

@@ -14,6 +14,7 @@ pub mod RowsKeep
 pub mod RunFacts
 pub mod SegmentFacts
 pub mod SoundFacts
+pub mod RoomFacts
 pub mod StartFacts
 pub mod StateFacts
 pub mod SystemFacts

@@ -1,4 +1,5 @@
 -- That outputs only grow, at most one of them in an event.
+use Rattle.file_table.specs.State.{outputs_of}
 use Rattle.std.proofs.Common.{◌≡◌, ℕ, Some, refl, sym, subst}
 use Rattle.guest_core.specs.declared.calls.CallOutcome.{CallOutcome}
 use Rattle.guest_core.specs.declared.calls.CallOutcome.TheVariants.{Answers, Ends}
@@ -20,12 +21,12 @@ call_shared : (outcome : CallOutcome) (shared : Shared) (context : Context Threa
 call_shared (Answers answer) shared context = refl
 call_shared (Ends end) shared context = refl
 
-instruction_same : (outcome : InstructionOutcome) (context : Context Thread) → (after_instruction outcome context).shared.files.outputs ≡ context.shared.files.outputs
+instruction_same : (outcome : InstructionOutcome) (context : Context Thread) → (outputs_of (after_instruction outcome context).shared.files) ≡ (outputs_of context.shared.files)
 instruction_same (Runs regs memory held) context = refl
 instruction_same Calls context = refl
 instruction_same (Faults fault) context = refl
 
-row_grows : (row : Row) (context : Context Thread) → Grows context.shared.files.outputs (done row context).shared.files.outputs
+row_grows : (row : Row) (context : Context Thread) → Grows (outputs_of context.shared.files) (outputs_of (done row context).shared.files)
 unfolding noted taken flag_cleared executed checked entered returned
 row_grows (Note instance) context = same_grows _ _ refl
 row_grows (Take instance) context = same_grows _ _ refl
@@ -34,14 +35,14 @@ row_grows Execute context = same_grows _ _ (instruction_same (instruction_of con
 row_grows Check context = same_grows _ _ refl
 row_grows Enter context =
     let made = called context.id context.self.regs context.shared in
-    subst (λ (shared : Shared). Grows context.shared.files.outputs shared.files.outputs) (sym (call_shared made.outcome made.shared context)) (called_owes context.id context.self.regs context.shared).outputs
+    subst (λ (shared : Shared). Grows (outputs_of context.shared.files) (outputs_of shared.files)) (sym (call_shared made.outcome made.shared context)) (called_owes context.id context.self.regs context.shared).outputs
 row_grows (Return answer) context = same_grows _ _ refl
 
-step_grows : (id : ℕ) (thread : Thread) (row : Row) (machine : Machine) → Grows machine.shared.files.outputs (settled (put id (done row (context_of id thread (ticked machine))) (ticked machine))).shared.files.outputs
+step_grows : (id : ℕ) (thread : Thread) (row : Row) (machine : Machine) → Grows (outputs_of machine.shared.files) (outputs_of (settled (put id (done row (context_of id thread (ticked machine))) (ticked machine))).shared.files)
 unfolding settled ticked
 step_grows id thread row machine = row_grows row (context_of id thread (ticked machine))
 
-pub event_grows : (event : Event) (machine next : Machine) → event_after machine event ≡ Some next → Grows machine.shared.files.outputs next.shared.files.outputs
+pub event_grows : (event : Event) (machine next : Machine) → event_after machine event ≡ Some next → Grows (outputs_of machine.shared.files) (outputs_of next.shared.files)
 event_grows (Step id) machine next is =
     let was = happened id machine next is in
-    subst (λ (m : Machine). Grows machine.shared.files.outputs m.shared.files.outputs) (sym was.next_is) (step_grows id was.thread was.row machine)
+    subst (λ (m : Machine). Grows (outputs_of machine.shared.files) (outputs_of m.shared.files)) (sym was.next_is) (step_grows id was.thread was.row machine)

@@ -1,14 +1,19 @@
 -- The state in which a program starts.
 -- Source: System V ABI, "Program Loading" and "Process Initialization"; RISC-V ELF psABI. That the other registers start as 0,
 -- the trampoline, through which handlers will return, and the bound of pages are the project's own.
-use Rattle.std.specs.Prelude.{◌≡◌, ◌<◌, ◌≤◌, ℕ, ◌+◌, ◌-◌, ◌^◌, ◌++◌, min, false, List, [], replicate, Result, Ok, Err}
+use Rattle.std.specs.Prelude.{◌≡◌, ◌<◌, ◌≤◌, ℕ, ◌+◌, ◌-◌, ◌^◌, ◌++◌, min, Bool, false, List, [], Option, None, Result, Ok, Err}
 use Rattle.byteorder.specs.Endian.{little_bytes}
 use Rattle.elf_file.specs.Reading.{Image}
+use Rattle.guest_pages.specs.declared.rights.Rights.{Rights}
 use Rattle.segment_load.specs.Loading.{loaded}
+use Rattle.segment_load.specs.Steps.{HasPages, right_pages}
 use Rattle.segment_load.specs.Wanted.{pages_of}
 use Rattle.start_stack.specs.Placing.{with_stack, stack_pointer, stack_size, told_size}
 use Rattle.guest_pages.specs.Limits.{most_pages, most_stack_bytes, page_size, trampoline}
 use Rattle.guest_pages.specs.Faults.{changeable, runnable}
+use Rattle.file_tree.specs.Nodes.{new_tree}
+use Rattle.file_table.specs.Opening.{started as opened_first}
+use Rattle.file_table.specs.State.{Files}
 use Rattle.host_calls.specs.Breaks.{break_behind}
 use Rattle.host_calls.specs.Queue.{empty_queue}
 use Rattle.guest_core.specs.declared.places.Place.TheVariants.{Loop}
@@ -46,12 +51,16 @@ first_memory program =
 
 -- ---- the state
 
+-- the tree has the root alone, and device d is open as descriptor d
+abbrev pub first_files : ℕ → Files
+first_files devices = opened_first new_tree devices None
+
 -- what the system has at first
 abbrev pub first_shared : Program → ℕ → Shared
 first_shared program devices = record {
   memory = first_memory program;
   held = joined first_thread [];
-  files = record { outputs = replicate devices [] };
+  files = first_files devices;
   queue = empty_queue;
   program_break = break_behind program.image.top;
   drawn = 16;
@@ -85,15 +94,26 @@ pub record FitsIn (program : Program) : Type 0 where
   pub stack : stack_size program.args program.env ≤ most_stack_bytes
   pub pages : wanted_pages program.image ≤ most_pages
 
--- a start is made where the stack and the pages suffice, and refused with the size of the first or else the number of the
--- second where they don't. Want of memory is free
+-- memory of whole pages, in which there is room for so many more
+pub record HasRoom (memory : List Range) (more : ℕ) : Type 0 where
+  pub mapped : ℕ → Bool
+  pub rights : ℕ → Rights
+  pub bytes : ℕ → ℕ
+  pub has : HasPages mapped rights bytes memory
+  pub few : right_pages mapped rights + more ≤ most_pages
+
+-- why a start is refused: with the size of the stack, or else with the number of the pages. Want of memory is free
+abbrev pub Refuses : Program → StartFault → Type 0
+Refuses program (StackTooLong size) =
+    (size ≡ told_size program.args program.env) × (most_stack_bytes < stack_size program.args program.env)
+Refuses program (PagesFull wanted) =
+    (wanted ≡ told_pages program.image) × (most_pages < wanted_pages program.image) × (stack_size program.args program.env ≤ most_stack_bytes)
+Refuses program Memory = Unit {0}
+
+-- a start is made where the stack and the pages suffice, and refused where they don't
 abbrev pub Starts : Program → ℕ → Result Machine StartFault → Type 0
 Starts program devices (Ok machine) = (machine ≡ started program devices) × FitsIn program
-Starts program devices (Err (StackTooLong size)) =
-    (size ≡ told_size program.args program.env) × (most_stack_bytes < stack_size program.args program.env)
-Starts program devices (Err (PagesFull wanted)) =
-    (wanted ≡ told_pages program.image) × (most_pages < wanted_pages program.image) × (stack_size program.args program.env ≤ most_stack_bytes)
-Starts program devices (Err Memory) = Unit {0}
+Starts program devices (Err fault) = Refuses program fault
 
 -- a program of a file that was read, with its arguments and environment
 abbrev pub program_of : Image → List (List ℕ) → List (List ℕ) → Program

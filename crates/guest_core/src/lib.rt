@@ -41,15 +41,15 @@
 //! its pages are too many.
 //!
 //! `Core::event` makes exactly `event_after`, refuses exactly what isn't enabled, and leaves the state after a
-//! refusal. Beside the look-up of its thread it takes constant time, but for a call by the bytes that it names, and memory
-//! only in a call, or for a fault while another signal is pending (`TakesNoMemory`). While the process lives, each thread
-//! that lives can make a step (`live`). Outputs only grow, at most one of them in an event (`Grows`), and the code stays.
+//! refusal. Beside the look-up of its thread it takes constant time, but for a call, which costs what `host_calls` says of it,
+//! and memory only in a call, or for a fault while another signal is pending (`TakesNoMemory`). While the process lives, each
+//! thread that lives can make a step (`live`). Outputs only grow, at most one of them in an event (`Grows`), and the code stays.
 //! `Core::run_on` makes many steps that are an instruction's and nothing else, which are a run of as many events.
 //!
 //! # Sources
 //!
-//! The System V ABI for the start, signal(7) and exit_group(2). The window between check and host is after the safe system calls of QEMU's linux-user; places, flag, noted signals and virtual
-//! time are the project's own.
+//! The System V ABI for the start, signal(7) and exit_group(2). The window between check and host is after the safe system
+//! calls of QEMU's linux-user; places, flag, noted signals and virtual time are the project's own.
 #![tactic(auto)]
 
 mod calls;

@@ -1,3 +1,4 @@
+ghost use Rattle.file_table.specs.State.{outputs_of};
 ghost use Rattle.std.specs.Prelude.{◌≡◌, ◌≤◌, ◌<◌, replicate, [], ◌∷◌, None, Some, length, map, take, slice_get, slice_index_or, is_none, ◌==◌, OnOk, OnErr, IfErr, IfSome, IsOk};
 ghost use Rattle.std.specs.Option.{option_copied, option_map};
 ghost use Rattle.guest_core.specs.Event.{is_enabled, event_after, run};
@@ -79,7 +80,7 @@ impl Core {
         ensures not_enabled { event_after self.old event.now ≡ None → result ≡ Err CoreRefusal.NotNow }
         ensures live { self.old.end ≡ None → Lives self.old event.now → result ≡ Err CoreRefusal.NotNow → ⊥ }
         ensures steady { TakesNoMemory self.old event.now → IsOk result }
-        ensures outputs { OnOk result (Grows self.old.shared.files.outputs self.new.shared.files.outputs) }
+        ensures outputs { OnOk result (Grows (outputs_of self.old.shared.files) (outputs_of self.new.shared.files)) }
         ensures code { OnOk result (KeepsCode self.old.shared.memory self.new.shared.memory) }
     {
         match *event {
@@ -95,7 +96,7 @@ impl Core {
         ensures not_enabled { event_after self.old (Event.Step thread) ≡ None → result ≡ Err CoreRefusal.NotNow }
         ensures live { self.old.end ≡ None → Lives self.old (Event.Step thread) → result ≡ Err CoreRefusal.NotNow → ⊥ }
         ensures steady { TakesNoMemory self.old (Event.Step thread) → IsOk result }
-        ensures outputs { OnOk result (Grows self.old.shared.files.outputs self.new.shared.files.outputs) }
+        ensures outputs { OnOk result (Grows (outputs_of self.old.shared.files) (outputs_of self.new.shared.files)) }
         ensures code { OnOk result (KeepsCode self.old.shared.memory self.new.shared.memory) }
     {
         if self.state.end.is_some() {
@@ -118,7 +119,7 @@ impl Core {
         ensures ran { run (Some self.old) (replicate result (Event.Step thread)) ≡ Some self.new }
         ensures plain { AllGoOn thread self.old result }
         ensures stops { result < limit → GoesOn thread self.new → ⊥ }
-        ensures outputs { self.new.shared.files.outputs ≡ self.old.shared.files.outputs }
+        ensures outputs { (outputs_of self.new.shared.files) ≡ (outputs_of self.old.shared.files) }
         ensures end { self.new.end ≡ self.old.end }
         ensures code { KeepsCode self.old.shared.memory self.new.shared.memory }
     {
@@ -233,16 +234,16 @@ impl Core {
 
     /// The number of devices.
     pub fn devices(&self) -> usize
-        ensures { result ≡ length self.now.shared.files.outputs }
+        ensures { result ≡ length (outputs_of self.now.shared.files) }
     {
-        self.state.host.outputs.len()
+        self.state.host.files.devices()
     }
 
     /// What was written to a device, in order.
     pub fn output(&self, device: usize) -> &[u8]
-        requires { device < length self.now.shared.files.outputs }
-        ensures { result.now ≡ slice_index_or self.now.shared.files.outputs device [] }
+        requires { device < length (outputs_of self.now.shared.files) }
+        ensures { result.now ≡ slice_index_or (outputs_of self.now.shared.files) device [] }
     {
-        self.state.host.outputs.get(device)
+        self.state.host.files.output(device)
     }
 }

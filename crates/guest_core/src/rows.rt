@@ -144,7 +144,7 @@ impl Thread {
         ensures most { result ≤ limit }
         ensures ran { PlainRun result host.old self.old host.new self.new }
         ensures stops { result < limit → IsPlain (instruction_of (context host.new self.new)) → ⊥ }
-        ensures outputs { host.new.outputs ≡ host.old.outputs }
+        ensures files { host.new.files ≡ host.old.files }
         ensures code { KeepsCode host.old.pages host.new.pages }
         ensures apart { IsApart host.new.pages }
         ensures known { All (IsKnown host.new.pages) decoder.new }

@@ -1,6 +1,6 @@
 ghost use Rattle.std.specs.Prelude.{◌≡◌, ◌≤◌, ◌<◌, length, IfOk, OnOk};
 ghost use Rattle.elf_file.specs.Reading.{image};
-ghost use Rattle.guest_core.specs.Start.{first_memory, program_of, started, with_trampoline, Starts};
+ghost use Rattle.guest_core.specs.Start.{first_files, first_memory, program_of, started, with_trampoline, FitsIn, HasRoom, Starts};
 ghost use Rattle.guest_core.specs.Kept.{Keeps};
 ghost use Rattle.guest_core.specs.State.{machine};
 ghost use Rattle.start_stack.specs.Placing.{stack_pointer};
@@ -10,15 +10,16 @@ use crate::places::Place;
 use crate::state::State;
 use crate::thread::Thread;
 use elf_file::Elf;
-use file_tree::Text;
+use file_table::Files;
+use file_tree::{Text, Tree};
 use guest_pages::{
-    CHANGEABLE, MOST_PAGES, MOST_STACK_BYTES, Pages, RUNNABLE, STACK_PAGES, TRAMPOLINE,
+    CHANGEABLE, MOST_PAGES, MOST_STACK_BYTES, MapFault, Pages, RUNNABLE, STACK_PAGES, TRAMPOLINE,
 };
-use host_calls::{Break, Host, Outputs, Pending};
+use host_calls::{Break, Host, Pending};
 use isa_exec::Regs;
 use isa_step::Decoder;
 use segment_load::{load, wanted_pages};
-use start_stack::{place, size_of};
+use start_stack::{StackFault, place, size_of};
 use std::alloc::{AllocError, Global};
 use word_memory::Reservations;
 
@@ -85,13 +86,15 @@ fn state_of(
     env: &[Text],
     devices: usize,
 ) -> Result<State, AllocError>
-    requires { 0 < length args.now }
+    requires devices { devices ≤ 8 }
+    requires name { 0 < length args.now }
+    requires fits { FitsIn (program_of (image elf.now) args.now env.now) }
     ensures { IfOk result (λ state. machine state ≡ started (program_of (image elf.now) args.now env.now) devices) }
 {
     let (pages, pointer) = memory_of(alloc, elf, args, env)?;
     let mut held = Reservations::new(alloc);
     held.add_thread(FIRST_THREAD)?;
-    let outputs = Outputs::new(alloc, devices)?;
+    let files = files_of(alloc, devices)?;
     let mut regs = Regs::starting_at(elf.entry);
     regs.set_register(2, pointer);
     let mut threads = Vec::new(alloc);
@@ -105,7 +108,7 @@ fn state_of(
         host: Host {
             pages,
             held,
-            outputs,
+            files,
             pending: Pending::new(alloc)?,
             program_break: Break::behind(elf.top),
             drawn: FIRST_RANDOM,
@@ -116,6 +119,15 @@ fn state_of(
     })
 }
 
+/// The files at first: an empty tree, and each device as the descriptor of its number.
+fn files_of(alloc: Global, devices: usize) -> Result<Files, AllocError>
+    requires { devices ≤ 8 }
+    ensures { IfOk result (λ files. files ≡ first_files devices) }
+{
+    let tree = Tree::new(alloc)?;
+    Files::new(alloc, tree, devices, None)
+}
+
 /// The first memory, and the stack pointer.
 #[tactic(auto, unfolding(crate::specs::Start::first_memory))]
 fn memory_of(
@@ -124,7 +136,8 @@ fn memory_of(
     args: &[Text],
     env: &[Text],
 ) -> Result<(Pages, u64), AllocError>
-    requires { 0 < length args.now }
+    requires name { 0 < length args.now }
+    requires fits { FitsIn (program_of (image elf.now) args.now env.now) }
     ensures memory { IfOk result (λ made. made.0 ≡ first_memory (program_of (image elf.now) args.now env.now)) }
     ensures pointer { IfOk result (λ made. made.1 ≡ stack_pointer args.now env.now) }
 {
@@ -132,23 +145,39 @@ fn memory_of(
     add_trampoline(alloc, &mut memory)?;
     match place(alloc, &mut memory, elf, args, env) {
         Ok(pointer) => Ok((memory, pointer)),
-        Err(_) => Err(AllocError),
+        Err(StackFault::Memory) => Err(AllocError),
+        Err(StackFault::TooLong { .. }) => unreachable!(),
+        Err(StackFault::PagesFull { .. }) => unreachable!(),
     }
 }
 
-/// Maps the trampoline's page, and fills it.
+/// Maps the trampoline's page, for which there is room, and fills it.
 #[tactic(auto, unfolding(crate::specs::Start::with_trampoline))]
 fn add_trampoline(alloc: Global, memory: &mut Pages) -> Result<(), AllocError>
+    requires { HasRoom memory.old 1 }
     ensures { OnOk result (memory.new ≡ with_trampoline memory.old) }
 {
-    if memory.map(alloc, TRAMPOLINE, 1, CHANGEABLE).is_err() {
-        return Err(AllocError);
+    match memory.map(alloc, TRAMPOLINE, 1, CHANGEABLE) {
+        Ok(()) => {}
+        Err(fault) => return Err(want_of(fault)),
     }
-    if memory.copy_in(TRAMPOLINE, &TRAMPOLINE_BYTES).is_err() {
-        return Err(AllocError);
+    match memory.copy_in(TRAMPOLINE, &TRAMPOLINE_BYTES) {
+        Ok(()) => {}
+        Err(_) => unreachable!(),
     }
-    if memory.protect(alloc, TRAMPOLINE, 1, RUNNABLE).is_err() {
-        return Err(AllocError);
+    match memory.protect(alloc, TRAMPOLINE, 1, RUNNABLE) {
+        Ok(()) => Ok(()),
+        Err(fault) => Err(want_of(fault)),
     }
-    Ok(())
+}
+
+/// Want of memory, as each allocation tells it.
+fn want_of(fault: MapFault) -> AllocError
+    requires { fault ≡ MapFault.Memory }
+{
+    match fault {
+        MapFault::Memory => AllocError,
+        MapFault::PagesFull { .. } => unreachable!(),
+        MapFault::NotMapped(_) => unreachable!(),
+    }
 }

@@ -91,7 +91,7 @@ impl State {
         ensures ran { (d : CodeThread) → run (Some (machine self.old)) (replicate result (Event.Step (slice_index_or self.old.threads.items place d).id)) ≡ Some (machine self.new) }
         ensures plain { (d : CodeThread) → AllGoOn (slice_index_or self.old.threads.items place d).id (machine self.old) result }
         ensures stops { (d : CodeThread) → result < limit → GoesOn (slice_index_or self.old.threads.items place d).id (machine self.new) → ⊥ }
-        ensures outputs { self.new.host.outputs ≡ self.old.host.outputs }
+        ensures files { self.new.host.files ≡ self.old.host.files }
         ensures end { self.new.end ≡ self.old.end }
         ensures code { KeepsCode self.old.host.pages self.new.host.pages }
         ensures apart { IsApart self.new.host.pages }

@@ -1,26 +1,18 @@
 use super::*;
+use elf_build::whole_program;
 use elf_file::{Elf, read};
 use file_tree::Text;
 use std::alloc::Global;
 use std::test::Fail;
 
-/// A file of 132 bytes, loaded whole at 0x10000, whose code at 0x10078 is `li a0,7; li a7,94; ecall`.
-const EXITS: [u8; 132] = [
-    0x7F, b'E', b'L', b'F', 2, 1, 1, 0, 0, 0, 0, 0, 0, 0, 0, 0, // identity
-    2, 0, 243, 0, 1, 0, 0, 0, 0x78, 0, 1, 0, 0, 0, 0, 0, // type, machine, version, entry
-    64, 0, 0, 0, 0, 0, 0, 0, 0, 0, 0, 0, 0, 0, 0, 0, // program headers, sections
-    1, 0, 0, 0, 64, 0, 56, 0, 1, 0, 0, 0, 0, 0, 0, 0, // flags, sizes, numbers
-    1, 0, 0, 0, 5, 0, 0, 0, 0, 0, 0, 0, 0, 0, 0, 0, // type, rights, offset
-    0, 0, 1, 0, 0, 0, 0, 0, 0, 0, 1, 0, 0, 0, 0, 0, // address
-    132, 0, 0, 0, 0, 0, 0, 0, 132, 0, 0, 0, 0, 0, 0, 0, // sizes
-    0, 16, 0, 0, 0, 0, 0, 0, // alignment
-    0x13, 0x05, 0x70, 0x00, 0x93, 0x08, 0xE0, 0x05, 0x73, 0x00, 0x00, 0x00, // code
-];
+/// `li a0,7; li a7,94; ecall`, which stand at 0x10078.
+const EXITS: [u32; 3] = [0x0070_0513, 0x05E0_0893, 0x0000_0073];
 
 const STEP: Event = Event::Step(FIRST_THREAD);
 
 fn started(alloc: Global) -> Result<Core, Fail> {
-    let elf: Elf = read(alloc, &EXITS)?;
+    let bytes = whole_program(alloc, &EXITS, &[])?;
+    let elf: Elf = read(alloc, &bytes)?;
     let name = [Text::new(alloc, "a")?];
     Ok(start(alloc, &elf, &name, &[], 3)?)
 }

@@ -5,9 +5,10 @@ use Rattle.std.proofs.lemmas.List.{get_or-take, get_or-drop}
 use Rattle.guest_pages.specs.declared.page.Page.{Page}
 use Rattle.guest_pages.specs.declared.page.Page.TheVariants.{Absent, Bare, Held}
 use Rattle.guest_pages.specs.declared.page.Table.{Table}
-use Rattle.guest_pages.specs.Cells.{Cell}
+use Rattle.guest_pages.specs.declared.rights.Rights.{Rights}
+use Rattle.guest_pages.specs.Cells.{Cell, has_none}
 use Rattle.guest_pages.specs.Counting.{rights_of}
-use Rattle.guest_pages.specs.Faults.{fault_of, first_fault, writable}
+use Rattle.guest_pages.specs.Faults.{fault_of, first_fault, KeepsRights}
 use Rattle.guest_pages.specs.Operations.{with_byte, written, stored_pages}
 use Rattle.guest_pages.specs.Ranges.{within}
 use Rattle.guest_pages.specs.Tables.{cell_in, held_in, is_present, mark_at, page_at, cells, held, AreMarked, IsSound}
@@ -19,7 +20,7 @@ use Rattle.guest_pages.specs.declared.width.Width.{Width}
 use Rattle.guest_pages.specs.declared.width.Width.TheVariants.{One, Two, Four, Eight}
 use Rattle.guest_pages.specs.Sizes.{size_of}
 use Rattle.guest_pages.proofs.TableFacts.{same_ranges, cell_at_held, fault_is}
-use Rattle.guest_pages.proofs.FaultFacts.{good_at, page_good}
+use Rattle.guest_pages.proofs.FaultFacts.{fault_none, good_at, page_good}
 use Rattle.guest_pages.proofs.ByteFacts.{good_held, held_good}
 use Rattle.guest_pages.proofs.Counting.{stored_same, tables_paged}
 use Rattle.guest_pages.proofs.PageFacts.{with_bytes_in, with_bytes_out}
@@ -73,14 +74,14 @@ some_or None never = absurd (never refl)
 some_or (Some x) never = refl
 
 -- an address past the bytes that were written, in a range that could be written, can be written
-pub still_good : (tables tables-2 : List Table) (at done size : ℕ) (bytes : List ℕ) → length tables ≤ 8192 → first_fault writable (held tables) at size ≡ None → done < size → length bytes ≡ done → ((a : ℕ) → cells tables-2 a ≡ with_bytes at bytes (cells tables) a) → is_some (held_in writable (page_at tables-2 ((at + done) / 4096))) ≡ true
+pub still_good : (needed : Rights) (tables tables-2 : List Table) (at done size : ℕ) (bytes : List ℕ) → has_none needed ≡ false → length tables ≤ 8192 → first_fault needed (held tables) at size ≡ None → done < size → length bytes ≡ done → ((a : ℕ) → cells tables-2 a ≡ with_bytes at bytes (cells tables) a) → is_some (held_in needed (page_at tables-2 ((at + done) / 4096))) ≡ true
 unfolding cells
-still_good tables tables-2 at done size bytes small good below full now =
+still_good needed tables tables-2 at done size bytes some small good below full now =
     let place : ℕ = at + done in
-    let before = sym (ap (fault_of writable (at + done)) (cell_at_held tables (at + done) small)) ∙ good_at writable (held tables) at size (at + done) good (omega arith) (omega arith) in
+    let before = sym (ap (fault_of needed (at + done)) (cell_at_held tables (at + done) small)) ∙ good_at needed (held tables) at size (at + done) good (omega arith) (omega arith) in
     let same = now (at + done) ∙ with_bytes_out at bytes (cells tables) (at + done) (inr (omega arith)) in
-    let after = sym (fault_is writable (page_at tables-2 ((at + done) / 4096)) (at + done)) ∙ (ap (fault_of writable (at + done)) same ∙ before) in
-    some_or _ (good_held writable (page_at tables-2 ((at + done) / 4096)) (at + done) refl after)
+    let after = sym (fault_is needed (page_at tables-2 ((at + done) / 4096)) (at + done)) ∙ (ap (fault_of needed (at + done)) same ∙ before) in
+    some_or _ (good_held needed (page_at tables-2 ((at + done) / 4096)) (at + done) some after)
 
 -- the memory that is written, by its cells
 pub written_held : (tables tables-2 : List Table) (at : ℕ) (bytes : List ℕ) → length tables ≤ 8192 → ((a : ℕ) → cells tables-2 a ≡ with_bytes at bytes (cells tables) a) → held tables-2 ≡ written at bytes (held tables)
@@ -178,13 +179,30 @@ is_some_value None h = absurd (false_true h)
 is_some_value (Some x) h = (x, refl)
 
 -- a page that was written was good
-pub near_good : (tables : List Table) (at n : ℕ) → length tables ≤ 8192 → at % 4096 + n ≤ 4096 → is_some (held_in writable (page_at tables (at / 4096))) ≡ true → first_fault writable (held tables) at n ≡ None
-near_good tables at n small room done =
-    let found = is_some_value (held_in writable (page_at tables (at / 4096))) done in
-    page_good writable tables at n small (held_good writable (page_at tables (at / 4096)) found.0 at found.1) room
+pub near_good : (needed : Rights) (tables : List Table) (at n : ℕ) → length tables ≤ 8192 → at % 4096 + n ≤ 4096 → is_some (held_in needed (page_at tables (at / 4096))) ≡ true → first_fault needed (held tables) at n ≡ None
+near_good needed tables at n small room done =
+    let found = is_some_value (held_in needed (page_at tables (at / 4096))) done in
+    page_good needed tables at n small (held_good needed (page_at tables (at / 4096)) found.0 at found.1) room
 
 pub low_length : (width : Width) (value : ℕ) → length (little_bytes (size_of width) value) ≡ size_of width
 low_length One value = refl
 low_length Two value = refl
 low_length Four value = refl
 low_length Eight value = refl
+
+fault_byte : (needed : Rights) (a byte : ℕ) (o : Option Cell) → fault_of needed a o ≡ None → fault_of needed a (with_byte byte o) ≡ None
+fault_byte needed a byte None good = good
+fault_byte needed a byte (Some c) good = good
+
+fault_choice : (needed : Rights) (b : Bool) (a byte : ℕ) (o : Option Cell) → fault_of needed a o ≡ None → fault_of needed a (if b then with_byte byte o else o) ≡ None
+fault_choice needed true a byte o good = fault_byte needed a byte o good
+fault_choice needed false a byte o good = good
+
+-- a write leaves what can be used
+pub rights_stay : (tables tables-2 : List Table) (at : ℕ) (bytes : List ℕ) → length tables ≤ 8192 → length tables-2 ≤ 8192 → ((a : ℕ) → cells tables-2 a ≡ with_bytes at bytes (cells tables) a) → KeepsRights (held tables) (held tables-2)
+unfolding with_bytes
+rights_stay tables tables-2 at bytes small small-2 same needed from n good =
+    fault_none needed (held tables-2) from n (λ i low high.
+    ap (fault_of needed i) (cell_at_held tables-2 i small-2 ∙ same i)
+    ∙ fault_choice needed (within at (length bytes) i) i (get_or bytes (i - at) 0) (cells tables i)
+    (sym (ap (fault_of needed i) (cell_at_held tables i small)) ∙ good_at needed (held tables) from n i good low high))

@@ -1,7 +1,7 @@
 -- Whether a range of addresses can be used: each must be mapped with the rights that are needed. Else the least bad
 -- address is told.
 -- Source: mmap(2), sigaction(2) (SEGV_MAPERR and SEGV_ACCERR); that the least address is told is the project's own.
-use Rattle.std.specs.Prelude.{ℕ, zero, suc, ◌+◌, true, false, if◌then◌else◌, List, Option, Some, None, Result, Ok, Err}
+use Rattle.std.specs.Prelude.{◌≡◌, ℕ, zero, suc, ◌+◌, true, false, if◌then◌else◌, List, Option, Some, None, Result, Ok, Err}
 use Rattle.guest_pages.specs.declared.rights.Rights.{Rights}
 use Rattle.guest_pages.specs.declared.fault.PageFault.{PageFault}
 use Rattle.guest_pages.specs.declared.fault.PageFault.TheVariants.{NotMapped, NoAccess}
@@ -54,3 +54,7 @@ unfoldable pub first_unmapped : List Range → ℕ → ℕ → Option ℕ
 first_unmapped memory address zero = None
 first_unmapped memory address (suc count) =
     unmapped_or address (cell_at memory address) (first_unmapped memory (address + 1) count)
+
+-- what could be used can still be used
+abbrev pub KeepsRights : List Range → List Range → Type 0
+KeepsRights old new = (needed : Rights) (at n : ℕ) → first_fault needed old at n ≡ None → first_fault needed new at n ≡ None

@@ -53,7 +53,7 @@ pub const RUNNABLE: Rights = Rights {
 
 impl Rights {
     /// They are all among these.
-    #[inline]
+    #[inline(always)]
     pub fn include(self, needed: Rights) -> bool
         ensures { result ≡ include self needed }
     {

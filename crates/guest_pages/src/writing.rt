@@ -2,11 +2,13 @@
 
 ghost use Rattle.std.specs.Prelude.{◌≡◌, ◌+◌, ◌/◌, ◌%◌, ◌≤◌, ℕ, length, true, false, is_some, None, ◌-◌, slice_index, if◌then◌else◌};
 ghost use Rattle.guest_pages.specs.Ranges.{within};
-ghost use Rattle.guest_pages.specs.Faults.{first_fault, writable};
+ghost use Rattle.guest_pages.specs.Cells.{has_none};
+ghost use Rattle.guest_pages.specs.Faults.{first_fault};
 ghost use Rattle.guest_pages.specs.Tables.{cell_in, cells, held, held_in, mark_at, page_at, rows_of};
 ghost use Rattle.guest_pages.specs.Writes.{with_bytes};
 
 use crate::page::{Page, Table};
+use crate::rights::Rights;
 
 /// Bytes go into an array from a place on.
 #[inline(always)]
@@ -18,17 +20,17 @@ fn put_in(stored: &mut [u8; 4096], place: usize, bytes: &[u8])
     stored[place..place + bytes.len()].copy_from_slice(bytes);
 }
 
-/// Bytes go into a page from a place on, if it can be written; whether it can.
+/// Bytes go into a page from a place on, if it has these rights; whether it has.
 #[inline(always)]
-fn write_in(page: &mut Page, place: usize, bytes: &[u8]) -> bool
+fn write_in(page: &mut Page, place: usize, bytes: &[u8], needed: Rights) -> bool
     requires { place + length bytes.now ≤ 4096 }
-    ensures answer { result ≡ is_some (held_in writable page.old) }
+    ensures answer { result ≡ is_some (held_in needed page.old) }
     ensures done { result ≡ true → (k : ℕ) → cell_in page.new k ≡ with_bytes place bytes.now (cell_in page.old) k }
     ensures undone { result ≡ false → page.new ≡ page.old }
 {
     match page {
         Page::Held(rights, stored) => {
-            if rights.write {
+            if rights.include(needed) {
                 put_in(&mut **stored, place, bytes);
                 true
             } else {
@@ -40,11 +42,11 @@ fn write_in(page: &mut Page, place: usize, bytes: &[u8]) -> bool
     }
 }
 
-/// Bytes go into the page of an address, if it can be written; whether it can.
+/// Bytes go into the page of an address, if it has these rights; whether it has.
 #[inline(always)]
-fn write_row(tables: &mut Vec<Table>, at: u64, bytes: &[u8]) -> bool
+fn write_row(tables: &mut Vec<Table>, at: u64, bytes: &[u8], needed: Rights) -> bool
     requires { at % 4096 + length bytes.now ≤ 4096 }
-    ensures answer { result ≡ is_some (held_in writable (page_at tables.old.items (at / 4096))) }
+    ensures answer { result ≡ is_some (held_in needed (page_at tables.old.items (at / 4096))) }
     ensures done { result ≡ true → (a : ℕ) → cells tables.new.items a ≡ with_bytes at bytes.now (cells tables.old.items) a }
     ensures undone { result ≡ false → (a : ℕ) → cells tables.new.items a ≡ cells tables.old.items a }
     ensures marks { (n : ℕ) → mark_at tables.new.items n ≡ mark_at tables.old.items n }
@@ -60,47 +62,54 @@ fn write_row(tables: &mut Vec<Table>, at: u64, bytes: &[u8]) -> bool
     if inner >= table.pages.len() {
         return false;
     }
-    write_in(&mut table.pages[inner], (at % 4096) as usize, bytes)
+    write_in(&mut table.pages[inner], (at % 4096) as usize, bytes, needed)
 }
 
 /// The same where there may be no tables.
 #[inline(always)]
-fn write_at(tables: &mut Option<Vec<Table>>, at: u64, bytes: &[u8]) -> bool
+fn write_at(tables: &mut Option<Vec<Table>>, at: u64, bytes: &[u8], needed: Rights) -> bool
     requires { at % 4096 + length bytes.now ≤ 4096 }
-    ensures answer { result ≡ is_some (held_in writable (page_at (rows_of tables.old) (at / 4096))) }
+    ensures answer { result ≡ is_some (held_in needed (page_at (rows_of tables.old) (at / 4096))) }
     ensures done { result ≡ true → (a : ℕ) → cells (rows_of tables.new) a ≡ with_bytes at bytes.now (cells (rows_of tables.old)) a }
     ensures undone { result ≡ false → (a : ℕ) → cells (rows_of tables.new) a ≡ cells (rows_of tables.old) a }
     ensures marks { (n : ℕ) → mark_at (rows_of tables.new) n ≡ mark_at (rows_of tables.old) n }
     ensures size { length (rows_of tables.new) ≡ length (rows_of tables.old) }
 {
     match tables {
-        Some(tables) => write_row(tables, at, bytes),
+        Some(tables) => write_row(tables, at, bytes, needed),
         None => false,
     }
 }
 
-/// Bytes go into memory from an address on, if they lie in one page and it can be written; whether they do.
+/// Bytes go into memory from an address on, if they lie in one page and it has these rights; whether they do.
 #[inline(always)]
-pub(crate) fn write_near(tables: &mut Option<Vec<Table>>, at: u64, bytes: &[u8]) -> bool
-    requires { length (rows_of tables.old) ≤ 8192 }
-    ensures good { result ≡ true → first_fault writable (held (rows_of tables.old)) at (length bytes.now) ≡ None }
+pub(crate) fn write_near(
+    tables: &mut Option<Vec<Table>>,
+    at: u64,
+    bytes: &[u8],
+    needed: Rights,
+) -> bool
+    requires needed { has_none needed ≡ false }
+    requires small { length (rows_of tables.old) ≤ 8192 }
+    ensures good { result ≡ true → first_fault needed (held (rows_of tables.old)) at (length bytes.now) ≡ None }
     ensures done { result ≡ true → (a : ℕ) → cells (rows_of tables.new) a ≡ with_bytes at bytes.now (cells (rows_of tables.old)) a }
     ensures undone { result ≡ false → (a : ℕ) → cells (rows_of tables.new) a ≡ cells (rows_of tables.old) a }
     ensures marks { (n : ℕ) → mark_at (rows_of tables.new) n ≡ mark_at (rows_of tables.old) n }
     ensures size { length (rows_of tables.new) ≡ length (rows_of tables.old) }
-    ensures near { at % 4096 + length bytes.now ≤ 4096 → result ≡ is_some (held_in writable (page_at (rows_of tables.old) (at / 4096))) }
+    ensures near { at % 4096 + length bytes.now ≤ 4096 → result ≡ is_some (held_in needed (page_at (rows_of tables.old) (at / 4096))) }
 {
     let room = 4096 - (at % 4096) as usize;
     if room < bytes.len() {
         return false;
     }
-    write_at(tables, at, bytes)
+    write_at(tables, at, bytes, needed)
 }
 
-/// Bytes go into memory from an address on, all of which can be written, a page at a time.
-pub(crate) fn copy_into(tables: &mut Option<Vec<Table>>, at: u64, bytes: &[u8])
+/// Bytes go into memory from an address on, all of which have these rights, a page at a time.
+pub(crate) fn copy_into(tables: &mut Option<Vec<Table>>, at: u64, bytes: &[u8], needed: Rights)
+    requires needed { has_none needed ≡ false }
     requires small { length (rows_of tables.old) ≤ 8192 }
-    requires allowed { first_fault writable (held (rows_of tables.old)) at (length bytes.now) ≡ None }
+    requires allowed { first_fault needed (held (rows_of tables.old)) at (length bytes.now) ≡ None }
     ensures cells { (a : ℕ) → cells (rows_of tables.new) a ≡ with_bytes at bytes.now (cells (rows_of tables.old)) a }
     ensures marks { (n : ℕ) → mark_at (rows_of tables.new) n ≡ mark_at (rows_of tables.old) n }
     ensures size { length (rows_of tables.new) ≡ length (rows_of tables.old) }
@@ -109,7 +118,7 @@ pub(crate) fn copy_into(tables: &mut Option<Vec<Table>>, at: u64, bytes: &[u8])
     while done < bytes.len() {
         let place = at + done as u64;
         let count = (4096 - (place % 4096) as usize).min(bytes.len() - done);
-        let _ = write_at(tables, place, &bytes[done..done + count]);
+        let _ = write_at(tables, place, &bytes[done..done + count], needed);
         done += count;
     }
 }

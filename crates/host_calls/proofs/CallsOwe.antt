@@ -7,31 +7,32 @@ use Rattle.host_calls.specs.Answers.{Answered, unreserved}
 use Rattle.host_calls.specs.Immediate.{immediate, made}
 use Rattle.host_calls.specs.Owes.{Owes}
 use Rattle.host_calls.specs.Shared.{Shared}
-use Rattle.host_calls.proofs.Shapes.{answers_alone, draws, maps, moves_break, protects, stores, tells_limit, tells_time, unmaps, writes}
+use Rattle.host_calls.proofs.Shapes.{answers_alone, draws, maps, moves_break, protects, stores, tells_limit, tells_time, unmaps}
+use Rattle.host_calls.proofs.FileShapes.{controls, cuts, duplicates, duplicates_to, ends_descriptor, lists_entries, makes_dir, moves_offset, no_links, no_terminal, opens, reads_at_offset, reads_many, reads_one, tells_open, tells_path, unlinks, writes_at_offset, writes_many, writes_one}
 
 made_owes : (call : CallNo) (thread : ℕ) (args : List ℕ) (shared : Shared) → Owes thread shared (unreserved thread (made call thread args shared).shared)
-made_owes call.Dup thread args shared = answers_alone thread shared
-made_owes call.Dup3 thread args shared = answers_alone thread shared
-made_owes call.Fcntl thread args shared = answers_alone thread shared
-made_owes call.Ioctl thread args shared = answers_alone thread shared
-made_owes call.Mkdirat thread args shared = answers_alone thread shared
-made_owes call.Unlinkat thread args shared = answers_alone thread shared
-made_owes call.Ftruncate thread args shared = answers_alone thread shared
-made_owes call.Openat thread args shared = answers_alone thread shared
-made_owes call.Close thread args shared = answers_alone thread shared
+made_owes call.Dup thread args shared = duplicates thread _ shared
+made_owes call.Dup3 thread args shared = duplicates_to thread _ _ _ shared
+made_owes call.Fcntl thread args shared = controls thread _ _ _ shared
+made_owes call.Ioctl thread args shared = no_terminal thread _ shared
+made_owes call.Mkdirat thread args shared = makes_dir thread _ _ shared
+made_owes call.Unlinkat thread args shared = unlinks thread _ _ _ shared
+made_owes call.Ftruncate thread args shared = cuts thread _ _ shared
+made_owes call.Openat thread args shared = opens thread _ _ _ shared
+made_owes call.Close thread args shared = ends_descriptor thread _ shared
 made_owes call.Pipe2 thread args shared = answers_alone thread shared
-made_owes call.Getdents64 thread args shared = answers_alone thread shared
-made_owes call.Lseek thread args shared = answers_alone thread shared
-made_owes call.Read thread args shared = answers_alone thread shared
-made_owes call.Write thread args shared = writes thread _ _ _ shared
-made_owes call.Readv thread args shared = answers_alone thread shared
-made_owes call.Writev thread args shared = answers_alone thread shared
-made_owes call.Pread64 thread args shared = answers_alone thread shared
-made_owes call.Pwrite64 thread args shared = answers_alone thread shared
+made_owes call.Getdents64 thread args shared = lists_entries thread _ _ _ shared
+made_owes call.Lseek thread args shared = moves_offset thread _ _ _ shared
+made_owes call.Read thread args shared = reads_one thread _ _ _ shared
+made_owes call.Write thread args shared = writes_one thread _ _ _ shared
+made_owes call.Readv thread args shared = reads_many thread _ _ _ shared
+made_owes call.Writev thread args shared = writes_many thread _ _ _ shared
+made_owes call.Pread64 thread args shared = reads_at_offset thread _ _ _ _ shared
+made_owes call.Pwrite64 thread args shared = writes_at_offset thread _ _ _ _ shared
 made_owes call.Ppoll thread args shared = answers_alone thread shared
-made_owes call.Readlinkat thread args shared = answers_alone thread shared
-made_owes call.Newfstatat thread args shared = answers_alone thread shared
-made_owes call.Fstat thread args shared = answers_alone thread shared
+made_owes call.Readlinkat thread args shared = no_links thread _ _ shared
+made_owes call.Newfstatat thread args shared = tells_path thread _ _ _ _ shared
+made_owes call.Fstat thread args shared = tells_open thread _ _ shared
 made_owes call.Exit thread args shared = answers_alone thread shared
 made_owes call.ExitGroup thread args shared = answers_alone thread shared
 made_owes call.SetTidAddress thread args shared = answers_alone thread shared

@@ -1,6 +1,11 @@
 pub mod ByteFacts
 pub mod CallsOwe
 pub mod ClockFacts
+pub mod FileShapes
+pub mod FillFacts
 pub mod MarkFacts
+pub mod PathFacts
+pub mod PieceFacts
 pub mod Places
 pub mod Shapes
+pub mod VectorFacts

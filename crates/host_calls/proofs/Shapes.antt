@@ -1,8 +1,11 @@
 -- What each shape of call owes.
-use Rattle.std.proofs.Common.{◌≡◌, ◌⊎◌, ℕ, zero, suc, ◌+◌, ◌-◌, ◌*◌, ◌≤◌, ◌==◌, ◌||◌, Bool, true, false, cond, nat_lt, min, ℤ, pos, List, [], ◌∷◌, length, Option, Some, None, inl, inr, refl, sym, subst, ap, ◌∙◌, set, get_or, append-nil, arith}
+use Rattle.std.proofs.Common.{◌≡◌, ◌⊎◌, ℕ, zero, suc, ◌+◌, ◌-◌, ◌*◌, ◌≤◌, ◌==◌, ◌||◌, Bool, true, false, cond, nat_lt, min, ℤ, pos, List, [], ◌∷◌, length, Option, Some, None, Result, Ok, Err, inl, inr, refl, sym, subst, ap, ◌∙◌, set, get_or, append-nil, arith}
 use Rattle.std.proofs.lemmas.Bool.Decides.{nat_tests}
 use Rattle.std.proofs.lemmas.List.{set-get_or}
-use Rattle.file_tree.specs.declared.errno.Errno.TheVariants.{EBADF}
+use Rattle.file_tree.specs.declared.errno.Errno.{Errno}
+use Rattle.file_tree.specs.declared.errno.Errno.TheVariants.{EACCES, ENOMEM}
+use Rattle.file_table.specs.State.{Files, outputs_of}
+use Rattle.file_table.proofs.OutputFacts.{GoesOn}
 use Rattle.guest_pages.specs.declared.fault.PageFault.{PageFault}
 use Rattle.guest_pages.specs.Apart.{IsApart, Stays}
 use Rattle.guest_pages.specs.Cells.{Cell}
@@ -17,12 +20,13 @@ use Rattle.word_memory.specs.declared.reservations.Held.{Held}
 use Rattle.word_memory.specs.Reservations.{reserving, stored_to, touches, unless_touched, with_reservation}
 use Rattle.host_calls.specs.Answers.{Answered, Refusal, answers, refuses, stored, stored_unless, unless, unreserved}
 use Rattle.host_calls.specs.Breaks.{most_break, pages_of, rounded_up}
-use Rattle.host_calls.specs.Descriptors.{write, written_out}
+use Rattle.host_calls.specs.Files.{with_files}
 use Rattle.host_calls.specs.Identity.{drew, getrandom, limit_refusals, limits, prlimit64, told_limit}
-use Rattle.host_calls.specs.Maps.{anywhere_refusals, brk, fixed_refusals, is_fixed, is_outside, lowered, mapped_anywhere, mapped_at, mapped_fixed, mapped_free, mapped_refusals, mmap, mmap_refusals, mprotect, mprotect_refusals, munmap, munmap_refusals, part_inside, raised, rights_of, same_break, too_many, with_break, with_memory}
+use Rattle.host_calls.specs.Maps.{brk, contents, filled, is_fixed, is_outside, lowered, mapped_with, mmap, mmap_refusals, mprotect, mprotect_refusals, munmap, munmap_refusals, part_inside, placed_anywhere, placed_at, placed_fixed, placed_free, placed_so, raised, rights_of, same_break, too_many, unplaced, with_break, with_memory}
 use Rattle.host_calls.specs.Owes.{Ended, Grows, OnlyEnd, Owes}
 use Rattle.host_calls.specs.Queue.{OnlySends, Queue}
-use Rattle.host_calls.specs.Shared.{Files, Shared, with_output}
+use Rattle.host_calls.specs.Shared.{Shared, with_output}
+use Rattle.host_calls.proofs.FillFacts.{filled_stays}
 use Rattle.host_calls.specs.Time.{clock_gettime, clock_refusals, time_bytes}
 
 -- ---- parts
@@ -41,38 +45,61 @@ same_sends old new same = record {
   ids = ap (λ (queue : Queue). queue.next_id) same;
 }
 
-ended_by : (own : Bool) (thread : ℕ) (held : Held) → (held.thread == thread) ≡ own → Ended thread held (cond own (record { thread = held.thread; reserved = None }) held)
-ended_by true thread held is = (refl, inl refl)
-ended_by false thread held is = (refl, inr (refl, is))
+-- a reservation stands as it was, or has ended
+abbrev pub Eased : Held → Held → Type 0
+Eased old new = (new.thread ≡ old.thread) × (new.reserved ≡ None ⊎ new.reserved ≡ old.reserved)
 
-pub own_ends : (thread : ℕ) (held : List Held) → OnlyEnd thread held (reserving thread None held)
-unfolding reserving
-own_ends thread [] = tt
-own_ends thread (first ∷ held) = (ended_by (first.thread == thread) thread first refl, own_ends thread held)
+abbrev pub AllEased : List Held → List Held → Type 0
+AllEased [] [] = Unit {0}
+AllEased (old ∷ olds) (new ∷ news) = Eased old new × AllEased olds news
+AllEased [] (new ∷ news) = ⊥
+AllEased (old ∷ olds) [] = ⊥
 
-touched_by : (test : Bool) (start size : ℕ) (reserved : Option ℕ) → (unless_touched start size reserved ≡ None) ⊎ (unless_touched start size reserved ≡ reserved)
-touched_by test start size None = inl refl
-touched_by test start size (Some at) = either_way (touches start size at)
+pub eased_same : (held : List Held) → AllEased held held
+eased_same [] = tt
+eased_same (first ∷ held) = ((refl, inr refl), eased_same held)
+
+touched_by : (start size : ℕ) (old reserved : Option ℕ) → reserved ≡ None ⊎ reserved ≡ old → (unless_touched start size reserved ≡ None) ⊎ (unless_touched start size reserved ≡ old)
+touched_by start size old None was = inl refl
+touched_by start size old (Some at) was = either_way (touches start size at)
   where
-    either_way : (touched : Bool) → (cond touched None (Some at) ≡ None) ⊎ (cond touched None (Some at) ≡ Some at)
+    either_way : (touched : Bool) → (cond touched None (Some at) ≡ None) ⊎ (cond touched None (Some at) ≡ old)
     either_way true = inl refl
-    either_way false = inr refl
+    either_way false = was
 
-store_ended : (own : Bool) (thread start size : ℕ) (held : Held) → (held.thread == thread) ≡ own → Ended thread held (with_reservation thread None (cond own held (record { thread = held.thread; reserved = unless_touched start size held.reserved })))
-store_ended true thread start size held is = rw is (refl, inl refl)
-store_ended false thread start size held is = rw is (
-  refl,
-  elim (touched_by false start size held.reserved) [
+stored_by : (own : Bool) (start size : ℕ) (old new : Held) → Eased old new → Eased old (cond own new (record { thread = new.thread; reserved = unless_touched start size new.reserved }))
+stored_by true start size old new eased = eased
+stored_by false start size old new eased = (eased.0, touched_by start size old.reserved new.reserved eased.1)
+
+-- a store of the thread ends some
+pub eased_store : (thread start size : ℕ) (olds news : List Held) → AllEased olds news → AllEased olds (stored_to thread start size news)
+unfolding stored_to
+eased_store thread start size [] [] eased = tt
+eased_store thread start size [] (new ∷ news) eased = absurd eased
+eased_store thread start size (old ∷ olds) [] eased = absurd eased
+eased_store thread start size (old ∷ olds) (new ∷ news) eased =
+    (stored_by (new.thread == thread) start size old new eased.0, eased_store thread start size olds news eased.1)
+
+ended_by : (own : Bool) (thread : ℕ) (old new : Held) → (new.thread == thread) ≡ own → Eased old new → Ended thread old (cond own (record { thread = new.thread; reserved = None }) new)
+ended_by true thread old new is eased = (eased.0, inl refl)
+ended_by false thread old new is eased = (
+  eased.0,
+  elim eased.1 [
     | inl none ↦ inl none
-    | inr same ↦ inr (same, refl)
+    | inr same ↦ inr (same, ap (λ (t : ℕ). t == thread) (sym eased.0) ∙ is)
   ],
 )
 
--- where the thread stored before its reservation ended
-pub stores_end : (thread start size : ℕ) (held : List Held) → OnlyEnd thread held (reserving thread None (stored_to thread start size held))
-unfolding reserving stored_to
-stores_end thread start size [] = tt
-stores_end thread start size (first ∷ held) = (store_ended (first.thread == thread) thread start size first refl, stores_end thread start size held)
+-- and its own ends with the call
+pub eased_end : (thread : ℕ) (olds news : List Held) → AllEased olds news → OnlyEnd thread olds (reserving thread None news)
+unfolding reserving
+eased_end thread [] [] eased = tt
+eased_end thread [] (new ∷ news) eased = absurd eased
+eased_end thread (old ∷ olds) [] eased = absurd eased
+eased_end thread (old ∷ olds) (new ∷ news) eased = (ended_by (new.thread == thread) thread old new refl eased.0, eased_end thread olds news eased.1)
+
+pub own_ends : (thread : ℕ) (held : List Held) → OnlyEnd thread held (reserving thread None held)
+own_ends thread held = eased_end thread held held (eased_same held)
 
 -- ---- shapes
 
@@ -80,7 +107,7 @@ stores_end thread start size (first ∷ held) = (store_ended (first.thread == th
 pub answers_alone : (thread : ℕ) (shared : Shared) → Owes thread shared (unreserved thread shared)
 answers_alone thread shared = record {
   memory = λ apart. same_stays shared.memory shared.memory apart refl;
-  outputs = same_grows shared.files.outputs shared.files.outputs refl;
+  outputs = same_grows (outputs_of shared.files) (outputs_of shared.files) refl;
   held = own_ends thread shared.held;
   queue = same_sends shared.queue shared.queue refl;
   clock = refl;
@@ -90,27 +117,43 @@ answers_alone thread shared = record {
 pub changes_memory : (thread : ℕ) (old new : Shared) → (IsApart old.memory → Stays old.memory new.memory) → new.held ≡ old.held → new.files ≡ old.files → new.queue ≡ old.queue → new.clock ≡ old.clock → Owes thread old (unreserved thread new)
 changes_memory thread old new stays held files queue clock = record {
   memory = stays;
-  outputs = same_grows old.files.outputs new.files.outputs (ap (λ (f : Files). f.outputs) files);
+  outputs = same_grows (outputs_of old.files) (outputs_of new.files) (ap outputs_of files);
   held = subst (λ (h : List Held). OnlyEnd thread old.held (reserving thread None h)) (sym held) (own_ends thread old.held);
   queue = same_sends old.queue new.queue queue;
   clock = clock;
 }
 
--- it stores bytes, which may end reservations of others
-pub stores_bytes : (thread at : ℕ) (bytes : List ℕ) (old new : Shared) → first_fault writable old.memory at (length bytes) ≡ None → new.memory ≡ written at bytes old.memory → new.held ≡ stored_to thread at (length bytes) old.held → new.files ≡ old.files → new.queue ≡ old.queue → new.clock ≡ old.clock → Owes thread old (unreserved thread new)
-stores_bytes thread at bytes old new good memory held files queue clock = record {
-  memory = λ apart. subst (Stays old.memory) (sym memory) (written_stays at bytes old.memory apart good);
-  outputs = same_grows old.files.outputs new.files.outputs (ap (λ (f : Files). f.outputs) files);
-  held = subst (λ (h : List Held). OnlyEnd thread old.held (reserving thread None h)) (sym held) (stores_end thread at (length bytes) old.held);
+-- it stores bytes, which may end reservations of others, and may go on in files
+pub stores_all : (thread : ℕ) (old new : Shared) → (IsApart old.memory → Stays old.memory new.memory) → AllEased old.held new.held → outputs_of new.files ≡ outputs_of old.files → new.queue ≡ old.queue → new.clock ≡ old.clock → Owes thread old (unreserved thread new)
+stores_all thread old new stays held files queue clock = record {
+  memory = stays;
+  outputs = same_grows (outputs_of old.files) (outputs_of new.files) files;
+  held = eased_end thread old.held new.held held;
   queue = same_sends old.queue new.queue queue;
   clock = clock;
 }
 
--- it puts bytes behind an output
-pub writes_out : (thread device : ℕ) (bytes : List ℕ) (shared : Shared) → Owes thread shared (unreserved thread (record shared { files = record shared.files { outputs = with_output device bytes shared.files.outputs } }))
-writes_out thread device bytes shared = record {
+pub stores_bytes : (thread at : ℕ) (bytes : List ℕ) (old new : Shared) → first_fault writable old.memory at (length bytes) ≡ None → new.memory ≡ written at bytes old.memory → new.held ≡ stored_to thread at (length bytes) old.held → new.files ≡ old.files → new.queue ≡ old.queue → new.clock ≡ old.clock → Owes thread old (unreserved thread new)
+stores_bytes thread at bytes old new good memory held files queue clock = stores_all thread old new
+    (λ apart. subst (Stays old.memory) (sym memory) (written_stays at bytes old.memory apart good))
+    (subst (AllEased old.held) (sym held) (eased_store thread at (length bytes) old.held old.held (eased_same old.held)))
+    (ap outputs_of files) queue clock
+
+-- it changes files, and writes nothing to devices
+pub changes_files : (thread : ℕ) (files : Files) (shared : Shared) → outputs_of files ≡ outputs_of shared.files → Owes thread shared (unreserved thread (with_files files shared))
+changes_files thread files shared same = record {
   memory = λ apart. same_stays shared.memory shared.memory apart refl;
-  outputs = record { device = device; more = bytes; grown = refl };
+  outputs = same_grows (outputs_of shared.files) (outputs_of files) same;
+  held = own_ends thread shared.held;
+  queue = same_sends shared.queue shared.queue refl;
+  clock = refl;
+}
+
+-- it writes to a device
+pub writes_out : (thread : ℕ) (files : Files) (shared : Shared) → GoesOn (outputs_of shared.files) (outputs_of files) → Owes thread shared (unreserved thread (with_files files shared))
+writes_out thread files shared goes = record {
+  memory = λ apart. same_stays shared.memory shared.memory apart refl;
+  outputs = record { device = goes.0; more = goes.1; grown = goes.2 };
   held = own_ends thread shared.held;
   queue = same_sends shared.queue shared.queue refl;
   clock = refl;
@@ -133,21 +176,6 @@ unless_owes [] thread shared answered made = made tt
 unless_owes (first ∷ refusals) thread shared answered made =
     either_owes first.holds thread shared (refuses first.errno shared) (unless refusals shared answered) (λ refused. answers_alone thread shared)
     (λ passed. unless_owes refusals thread shared answered (λ passes. made (passed, passes)))
-
--- ---- descriptors
-
-written_owes : (bad : Option PageFault) (thread device at count : ℕ) (shared : Shared) → Owes thread shared (unreserved thread (written_out bad device at count shared).shared)
-written_owes (Some bad) thread device at count shared = answers_alone thread shared
-written_owes None thread device at count shared = writes_out thread device _ shared
-
-pub writes : (thread descriptor at wish : ℕ) (shared : Shared) → Owes thread shared (unreserved thread (write descriptor at wish shared).shared)
-unfolding write
-writes thread descriptor at wish shared =
-    either_owes (nat_lt descriptor (length shared.files.outputs)) thread shared
-    (written_out (first_fault readable shared.memory at (min wish 1048576)) descriptor at (min wish 1048576) shared) (refuses EBADF shared)
-    (λ named. written_owes (first_fault readable shared.memory at (min wish 1048576)) thread descriptor at (min wish 1048576) shared) (λ unnamed. answers_alone thread shared)
-
--- ---- stores
 
 stored_owes : (bad : Option PageFault) (thread at : ℕ) (bytes : List ℕ) (answer : ℤ) (shared : Shared) → first_fault writable shared.memory at (length bytes) ≡ bad → Owes thread shared (unreserved thread (stored_unless bad thread at bytes answer shared).shared)
 stored_owes (Some bad) thread at bytes answer shared is = answers_alone thread shared
@@ -196,15 +224,6 @@ protects thread at size protection shared = unless_owes (mprotect_refusals at (r
     (λ passes. changes_memory thread shared (with_memory (protected at (rounded_up size) (rights_of protection) shared.memory) shared)
     (protected_stays at (rounded_up size) (rights_of protection) shared.memory refl (no_code_whole shared.memory at (rounded_up size) passes.1.1.0 passes.1.1.1.0)) refl refl refl refl)
 
-mapped_owes : (thread at size protection : ℕ) (shared : Shared) → touches_code shared.memory at size ≡ false → Owes thread shared (unreserved thread (mapped_at at size (rights_of protection) shared).shared)
-mapped_owes thread at size protection shared none = unless_owes (mapped_refusals at size (rights_of protection) shared) thread shared (answers (pos at) (with_memory (placed at size (rights_of protection) shared.memory) shared))
-    (λ passes. changes_memory thread shared (with_memory (placed at size (rights_of protection) shared.memory) shared) (placed_stays at size (rights_of protection) shared.memory refl none) refl refl refl refl)
-
-fixed_owes : (thread at size protection flags : ℕ) (shared : Shared) → Owes thread shared (unreserved thread (mapped_fixed at size (rights_of protection) flags shared).shared)
-unfolding mapped_fixed
-fixed_owes thread at size protection flags shared = unless_owes (fixed_refusals at size flags shared) thread shared (mapped_at at size (rights_of protection) shared)
-    (λ passes. mapped_owes thread at size protection shared (no_code_whole shared.memory at size passes.1.1.0 passes.1.1.1.0))
-
 no_map_cell : (o : Option Cell) → is_mapped o ≡ false → is_code o ≡ false
 no_map_cell None none = refl
 no_map_cell (Some c) none = cc
@@ -229,20 +248,39 @@ highest_is_free memory count zero at same = cc
 highest_is_free memory count (suc page) at same =
     found_by (any_mapped memory (4096 * page) (4096 * count)) memory count page at refl (highest_is_free memory count page at) same
 
-free_owes : (place : Option ℕ) (thread count protection : ℕ) (shared : Shared) → free_place shared.memory count ≡ place → Owes thread shared (unreserved thread (mapped_free place (page_size * count) (rights_of protection) shared).shared)
-free_owes None thread count protection shared is = answers_alone thread shared
-free_owes (Some at) thread count protection shared is =
-    mapped_owes thread at (page_size * count) protection shared (no_map_no_code shared.memory at (4096 * count) (highest_is_free shared.memory count _ at is))
+-- a map leaves the code
+at_stays : (test : Bool) (at size protection : ℕ) (bytes : List ℕ) (memory : List Range) → touches_code memory at size ≡ false → IsApart memory → Stays memory (cond test (unplaced ENOMEM memory) (record { memory = filled at size bytes (rights_of protection) (placed at size (rights_of protection) memory); answer = pos at })).memory
+at_stays true at size protection bytes memory none apart = same_stays memory memory apart refl
+at_stays false at size protection bytes memory none apart = filled_stays at size (rights_of protection) bytes memory refl none apart
 
-anywhere_owes : (thread count protection flags : ℕ) (shared : Shared) → Owes thread shared (unreserved thread (mapped_anywhere count (rights_of protection) flags shared).shared)
-unfolding mapped_anywhere
-anywhere_owes thread count protection flags shared = unless_owes (anywhere_refusals flags) thread shared (mapped_free (free_place shared.memory count) (page_size * count) (rights_of protection) shared) (λ passes. free_owes (free_place shared.memory count) thread count protection shared refl)
+placed_at_stays : (at size protection : ℕ) (bytes : List ℕ) (memory : List Range) → touches_code memory at size ≡ false → IsApart memory → Stays memory (placed_at at size (rights_of protection) bytes memory).memory
+unfolding placed_at
+placed_at_stays at size protection bytes memory none apart = at_stays (too_many (placed at size (rights_of protection) memory)) at size protection bytes memory none apart
+
+fixed_by : (code out : Bool) (at size protection : ℕ) (bytes : List ℕ) (memory : List Range) → touches_code memory at (part_inside at size) ≡ code → is_outside at size ≡ out → IsApart memory → Stays memory (cond code (unplaced EACCES memory) (cond out (unplaced ENOMEM memory) (placed_at at size (rights_of protection) bytes memory))).memory
+fixed_by true out at size protection bytes memory code-is out-is apart = same_stays memory memory apart refl
+fixed_by false true at size protection bytes memory code-is out-is apart = same_stays memory memory apart refl
+fixed_by false false at size protection bytes memory code-is out-is apart = placed_at_stays at size protection bytes memory (no_code_whole memory at size code-is out-is) apart
+
+free_stays : (place : Option ℕ) (count protection : ℕ) (bytes : List ℕ) (memory : List Range) → free_place memory count ≡ place → IsApart memory → Stays memory (placed_free place (page_size * count) (rights_of protection) bytes memory).memory
+free_stays None count protection bytes memory is apart = same_stays memory memory apart refl
+free_stays (Some at) count protection bytes memory is apart =
+    placed_at_stays at (page_size * count) protection bytes memory (no_map_no_code memory at (4096 * count) (highest_is_free memory count _ at is)) apart
+
+so_by : (fixed : Bool) (at count protection : ℕ) (bytes : List ℕ) (memory : List Range) → IsApart memory → Stays memory (cond fixed (placed_fixed at (page_size * count) (rights_of protection) bytes memory) (placed_anywhere count (rights_of protection) bytes memory)).memory
+unfolding placed_fixed placed_anywhere
+so_by true at count protection bytes memory apart = fixed_by (touches_code memory at (part_inside at (page_size * count))) (is_outside at (page_size * count)) at (page_size * count) protection bytes memory refl refl apart
+so_by false at count protection bytes memory apart = free_stays (free_place memory count) count protection bytes memory refl apart
+
+with_owes : (r : Result (List ℕ) Errno) (thread at count protection flags : ℕ) (shared : Shared) → Owes thread shared (unreserved thread (mapped_with at count (rights_of protection) flags r shared).shared)
+with_owes (Err errno) thread at count protection flags shared = answers_alone thread shared
+with_owes (Ok bytes) thread at count protection flags shared =
+    changes_memory thread shared (with_memory (placed_so at count (rights_of protection) flags bytes shared.memory).memory shared) (so_by (is_fixed flags) at count protection bytes shared.memory) refl refl refl refl
 
 pub maps : (thread at size protection flags descriptor offset : ℕ) (shared : Shared) → Owes thread shared (unreserved thread (mmap at size protection flags descriptor offset shared).shared)
 unfolding mmap
-maps thread at size protection flags descriptor offset shared = unless_owes (mmap_refusals at size protection flags descriptor offset shared) thread shared (cond (is_fixed flags) (mapped_fixed at (rounded_up size) (rights_of protection) flags shared) (mapped_anywhere (pages_of size) (rights_of protection) flags shared))
-    (λ passes. either_owes (is_fixed flags) thread shared (mapped_fixed at (rounded_up size) (rights_of protection) flags shared) (mapped_anywhere (pages_of size) (rights_of protection) flags shared)
-    (λ fixed. fixed_owes thread at (rounded_up size) protection flags shared) (λ free. anywhere_owes thread (pages_of size) protection flags shared))
+maps thread at size protection flags descriptor offset shared = unless_owes (mmap_refusals at size protection flags descriptor offset shared) thread shared _
+    (λ passes. with_owes (contents flags descriptor offset (rounded_up size) shared.files) thread at (pages_of size) protection flags shared)
 
 -- ---- the break
 

@@ -1,28 +1,45 @@
--- Calls on open descriptors.
--- Source: write(2); that a write moves at most 1048576 bytes, and that its whole range is looked at before anything is
--- written, is the project's own.
-use Rattle.std.specs.Prelude.{ℕ, nat_lt, min, if◌then◌else◌, pos, length, Option, Some, None}
-use Rattle.file_tree.specs.declared.errno.Errno.TheVariants.{EBADF, EFAULT}
-use Rattle.guest_pages.specs.declared.fault.PageFault.{PageFault}
-use Rattle.guest_pages.specs.Faults.{first_fault, readable}
-use Rattle.guest_pages.specs.Operations.{bytes_at}
-use Rattle.host_calls.specs.Answers.{Answered, refuses}
-use Rattle.host_calls.specs.Shared.{Shared, with_output}
+-- Calls that make, change and close descriptors.
+-- Source: dup(2), fcntl(2), ioctl(2), close(2). That other flags and commands are refused, and that no ioctl is there, is the
+-- project's own.
+use Rattle.std.specs.Prelude.{ℕ, ◌%◌, ◌==◌, Bool, false, true, not, ◌||◌, if◌then◌else◌, is_some, List, [], ◌∷◌}
+use Rattle.file_tree.specs.declared.errno.Errno.TheVariants.{EBADF, EINVAL, ENOTTY}
+use Rattle.file_table.specs.declared.state.Opened.{Opened}
+use Rattle.file_table.specs.Descriptors.{close as closes, dup as dups, dup_to as dups_to, marked, what, with_flags}
+use Rattle.file_table.specs.Flags.{kept}
+use Rattle.host_calls.specs.Answers.{Answered, Refusal, refusal, refuses, unless}
+use Rattle.host_calls.specs.Files.{answered_by, done_by, left_by, told_of}
+use Rattle.host_calls.specs.Shared.{Shared}
 
--- the bytes of the range go behind the device's output, unless the range has a fault
-abbrev pub written_out : Option PageFault → ℕ → ℕ → ℕ → Shared → Answered
-written_out (Some bad) device at count shared = refuses EFAULT shared
-written_out None device at count shared = record {
-  shared = record shared {
-    files = record shared.files { outputs = with_output device (bytes_at shared.memory at count) shared.files.outputs };
-  };
-  answer = pos count;
-}
+-- dup(2)
+unfoldable pub dup : ℕ → Shared → Answered
+dup fd shared = answered_by (dups fd 0 false shared.files) shared
 
--- write(2): descriptor d names device d
-unfoldable pub write : ℕ → ℕ → ℕ → Shared → Answered
-write descriptor at wish shared =
-    let count = min wish 1048576 in
-    if nat_lt descriptor (length shared.files.outputs)
-    then written_out (first_fault readable shared.memory at count) descriptor at count shared
-    else refuses EBADF shared
+-- dup3(2): of flags O_CLOEXEC alone
+abbrev pub dup3_refusals : ℕ → List Refusal
+dup3_refusals flags = refusal (not (flags == 0 || flags == 0x80000)) EINVAL ∷ []
+
+unfoldable pub dup3 : ℕ → ℕ → ℕ → Shared → Answered
+dup3 fd to flags shared = unless (dup3_refusals flags) shared (answered_by (dups_to fd to (flags == 0x80000) shared.files) shared)
+
+-- FD_CLOEXEC
+abbrev pub mark : Opened → ℕ
+mark opened = if opened.close_on_exec then 1 else 0
+
+-- fcntl(2): F_DUPFD 0, F_GETFD 1, F_SETFD 2, F_GETFL 3, F_SETFL 4, F_DUPFD_CLOEXEC 1030
+unfoldable pub fcntl : ℕ → ℕ → ℕ → Shared → Answered
+fcntl fd command argument shared =
+    if command == 0 then answered_by (dups fd argument false shared.files) shared
+    else if command == 1030 then answered_by (dups fd argument true shared.files) shared
+    else if command == 1 then told_of (what fd shared.files) mark shared
+    else if command == 2 then left_by (marked fd (argument % 2 == 1) shared.files) shared
+    else if command == 3 then told_of (what fd shared.files) (λ opened. kept opened.flags) shared
+    else if command == 4 then left_by (with_flags fd argument shared.files) shared
+    else refuses EINVAL shared
+
+-- ioctl(2): no descriptor is a terminal
+unfoldable pub ioctl : ℕ → Shared → Answered
+ioctl fd shared = if is_some (what fd shared.files) then refuses ENOTTY shared else refuses EBADF shared
+
+-- close(2)
+unfoldable pub close : ℕ → Shared → Answered
+close fd shared = done_by (closes fd shared.files) shared

@@ -8,7 +8,7 @@ abbrev pub shared_of : Host → Shared
 shared_of host = record {
   memory = host.pages;
   held = host.held;
-  files = record { outputs = host.outputs };
+  files = host.files;
   queue = host.pending.queue;
   program_break = host.program_break;
   drawn = host.drawn;

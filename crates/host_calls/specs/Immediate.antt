@@ -7,36 +7,39 @@ use Rattle.call_table.specs.declared.call.CallNo.{CallNo}
 use Rattle.call_table.specs.declared.call.CallNo.TheVariants as call
 use Rattle.file_tree.specs.declared.errno.Errno.TheVariants.{ENOSYS}
 use Rattle.host_calls.specs.Answers.{Answered, argument, ending, refuses}
-use Rattle.host_calls.specs.Descriptors.{write}
+use Rattle.host_calls.specs.Descriptors.{close, dup, dup3, fcntl, ioctl}
 use Rattle.host_calls.specs.Identity.{getpid, getrandom, gettid, prlimit64, sched_yield, uname, user}
 use Rattle.host_calls.specs.Maps.{brk, mmap, mprotect, munmap}
+use Rattle.host_calls.specs.Moving.{ftruncate, getdents64, lseek, pread64, pwrite64, read, readv, write, writev}
+use Rattle.host_calls.specs.Paths.{mkdirat, openat, readlinkat, unlinkat}
+use Rattle.host_calls.specs.Stat.{fstat, newfstatat}
 use Rattle.host_calls.specs.Time.{clock_gettime}
 use Rattle.host_calls.specs.Shared.{Shared}
 
 -- what the call with these arguments does
 abbrev pub made : CallNo → ℕ → List ℕ → Shared → Answered
-made call.Dup thread args shared = refuses ENOSYS shared
-made call.Dup3 thread args shared = refuses ENOSYS shared
-made call.Fcntl thread args shared = refuses ENOSYS shared
-made call.Ioctl thread args shared = refuses ENOSYS shared
-made call.Mkdirat thread args shared = refuses ENOSYS shared
-made call.Unlinkat thread args shared = refuses ENOSYS shared
-made call.Ftruncate thread args shared = refuses ENOSYS shared
-made call.Openat thread args shared = refuses ENOSYS shared
-made call.Close thread args shared = refuses ENOSYS shared
+made call.Dup thread args shared = dup (argument 0 args) shared
+made call.Dup3 thread args shared = dup3 (argument 0 args) (argument 1 args) (argument 2 args) shared
+made call.Fcntl thread args shared = fcntl (argument 0 args) (argument 1 args) (argument 2 args) shared
+made call.Ioctl thread args shared = ioctl (argument 0 args) shared
+made call.Mkdirat thread args shared = mkdirat (argument 0 args) (argument 1 args) shared
+made call.Unlinkat thread args shared = unlinkat (argument 0 args) (argument 1 args) (argument 2 args) shared
+made call.Ftruncate thread args shared = ftruncate (argument 0 args) (argument 1 args) shared
+made call.Openat thread args shared = openat (argument 0 args) (argument 1 args) (argument 2 args) shared
+made call.Close thread args shared = close (argument 0 args) shared
 made call.Pipe2 thread args shared = refuses ENOSYS shared
-made call.Getdents64 thread args shared = refuses ENOSYS shared
-made call.Lseek thread args shared = refuses ENOSYS shared
-made call.Read thread args shared = refuses ENOSYS shared
+made call.Getdents64 thread args shared = getdents64 thread (argument 0 args) (argument 1 args) (argument 2 args) shared
+made call.Lseek thread args shared = lseek (argument 0 args) (argument 1 args) (argument 2 args) shared
+made call.Read thread args shared = read thread (argument 0 args) (argument 1 args) (argument 2 args) shared
 made call.Write thread args shared = write (argument 0 args) (argument 1 args) (argument 2 args) shared
-made call.Readv thread args shared = refuses ENOSYS shared
-made call.Writev thread args shared = refuses ENOSYS shared
-made call.Pread64 thread args shared = refuses ENOSYS shared
-made call.Pwrite64 thread args shared = refuses ENOSYS shared
+made call.Readv thread args shared = readv thread (argument 0 args) (argument 1 args) (argument 2 args) shared
+made call.Writev thread args shared = writev (argument 0 args) (argument 1 args) (argument 2 args) shared
+made call.Pread64 thread args shared = pread64 thread (argument 0 args) (argument 1 args) (argument 2 args) (argument 3 args) shared
+made call.Pwrite64 thread args shared = pwrite64 (argument 0 args) (argument 1 args) (argument 2 args) (argument 3 args) shared
 made call.Ppoll thread args shared = refuses ENOSYS shared
-made call.Readlinkat thread args shared = refuses ENOSYS shared
-made call.Newfstatat thread args shared = refuses ENOSYS shared
-made call.Fstat thread args shared = refuses ENOSYS shared
+made call.Readlinkat thread args shared = readlinkat (argument 0 args) (argument 1 args) shared
+made call.Newfstatat thread args shared = newfstatat thread (argument 0 args) (argument 1 args) (argument 2 args) (argument 3 args) shared
+made call.Fstat thread args shared = fstat thread (argument 0 args) (argument 1 args) shared
 made call.Exit thread args shared = refuses ENOSYS shared
 made call.ExitGroup thread args shared = refuses ENOSYS shared
 made call.SetTidAddress thread args shared = refuses ENOSYS shared

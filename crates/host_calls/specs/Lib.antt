@@ -1,12 +1,17 @@
 pub mod Answers
 pub mod Breaks
 pub mod Descriptors
+pub mod Files
 pub mod Host
 pub mod Identity
 pub mod Immediate
 pub mod Maps
 pub mod Marks
+pub mod Moving
 pub mod Owes
+pub mod Paths
+pub mod Pieces
 pub mod Queue
 pub mod Shared
+pub mod Stat
 pub mod Time

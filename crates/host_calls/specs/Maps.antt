@@ -1,14 +1,20 @@
--- Memory and its maps.
+-- Memory and its maps. A private map of a file has a copy of its bytes.
 -- Source: brk(2), mmap(2), munmap(2), mprotect(2). That code can't be unmapped, changed or mapped over, that no page gets the
 -- right to execute, where a map without a place goes, and the bounds are the project's own. A length is rounded up to
 -- whole pages, and flags without a name are passed over.
-use Rattle.std.specs.Prelude.{ℕ, ◌+◌, ◌-◌, ◌*◌, ◌/◌, ◌%◌, ◌==◌, nat_lt, min, Bool, false, not, ◌&&◌, ◌||◌, if◌then◌else◌, pos, List, [], ◌∷◌, length, is_some, Option, Some, None}
+use Rattle.std.specs.Prelude.{ℕ, ◌+◌, ◌-◌, ◌*◌, ◌/◌, ◌%◌, ◌==◌, nat_lt, min, Bool, false, not, ◌&&◌, ◌||◌, if◌then◌else◌, ℤ, pos, neg_ℤ, List, [], ◌∷◌, length, take, is_some, Option, Some, None, Result, Ok, Err}
 use Rattle.file_tree.specs.declared.errno.Errno.TheVariants.{EACCES, EBADF, EEXIST, EINVAL, ENODEV, ENOMEM}
+use Rattle.file_tree.specs.declared.errno.Errno.{Errno}
+use Rattle.file_tree.specs.Errors.{number}
+use Rattle.file_table.specs.Descriptors.{what}
+use Rattle.file_table.specs.Moving.{read_at}
+use Rattle.file_table.specs.State.{Files}
 use Rattle.guest_pages.specs.declared.rights.Rights.{Rights}
+use Rattle.guest_pages.specs.Cells.{has_none}
 use Rattle.guest_pages.specs.Faults.{changeable, first_unmapped}
 use Rattle.guest_pages.specs.Finding.{any_mapped, free_place, touches_code}
 use Rattle.guest_pages.specs.Limits.{most_pages, page_size, user_end}
-use Rattle.guest_pages.specs.Operations.{placed, protected, stored_pages, unmapped}
+use Rattle.guest_pages.specs.Operations.{placed, protected, stored_pages, unmapped, written}
 use Rattle.guest_pages.specs.Ranges.{Range}
 use Rattle.host_calls.specs.Answers.{Answered, Refusal, answers, refusal, refuses, unless}
 use Rattle.host_calls.specs.Breaks.{most_break, pages_of, rounded_up}
@@ -86,51 +92,86 @@ is_fixed flags = has_bit flags 0x10 || keeps_maps flags
 abbrev pub is_anonymous : ℕ → Bool
 is_anonymous flags = has_bit flags 0x20
 
--- pages of zeros at a place
-abbrev pub mapped_refusals : ℕ → ℕ → Rights → Shared → List Refusal
-mapped_refusals at size rights shared = refusal (too_many (placed at size rights shared.memory)) ENOMEM ∷ []
+-- MAP_SHARED
+abbrev pub is_shared : ℕ → Bool
+is_shared flags = flags % 16 == 1
 
-abbrev pub mapped_at : ℕ → ℕ → Rights → Shared → Answered
-mapped_at at size rights shared =
-    unless (mapped_refusals at size rights shared) shared (answers (pos at) (with_memory (placed at size rights shared.memory) shared))
+-- the bytes of a file are mapped where it can be read; what is no file, and what is to be shared, isn't
+abbrev pub mapped_file : Result (List ℕ) Errno → Result (List ℕ) Errno
+mapped_file (Ok bytes) = Ok bytes
+mapped_file (Err EBADF) = Err EACCES
+mapped_file (Err errno) = Err ENODEV
 
-abbrev pub fixed_refusals : ℕ → ℕ → ℕ → Shared → List Refusal
-fixed_refusals at size flags shared =
-    refusal (keeps_maps flags && any_mapped shared.memory at (part_inside at size)) EEXIST
-    ∷ refusal (not (is_anonymous flags)) ENODEV
-    ∷ refusal (touches_code shared.memory at (part_inside at size)) EACCES
-    ∷ refusal (is_outside at size) ENOMEM
-    ∷ []
+-- the most bytes of a file
+abbrev pub most_file : ℕ
+most_file = 16777216
 
-unfoldable pub mapped_fixed : ℕ → ℕ → Rights → ℕ → Shared → Answered
-mapped_fixed at size rights flags shared = unless (fixed_refusals at size flags shared) shared (mapped_at at size rights shared)
+-- what the first bytes of a map are: none of an anonymous one, which has zeros, else those of the file from the offset on
+abbrev pub contents : ℕ → ℕ → ℕ → ℕ → Files → Result (List ℕ) Errno
+contents flags descriptor offset size files =
+    if is_anonymous flags then Ok []
+    else if is_shared flags then Err ENODEV
+    else mapped_file (read_at descriptor offset (min size most_file) files)
+
+-- what a map leaves, and its answer
+pub record Placed : Type 0 where
+  pub memory : List Range
+  pub answer : ℤ
+
+abbrev pub unplaced : Errno → List Range → Placed
+unplaced errno memory = record { memory = memory; answer = neg_ℤ (pos (number errno)) }
+
+-- bytes come into pages that were placed, as far as there is room. Pages without rights store none
+abbrev pub filled : ℕ → ℕ → List ℕ → Rights → List Range → List Range
+filled at size bytes rights memory = if has_none rights then memory else written at (take size bytes) memory
+
+-- pages at a place, zeros behind the bytes
+unfoldable pub placed_at : ℕ → ℕ → Rights → List ℕ → List Range → Placed
+placed_at at size rights bytes memory =
+    if too_many (placed at size rights memory) then unplaced ENOMEM memory
+    else record { memory = filled at size bytes rights (placed at size rights memory); answer = pos at }
+
+unfoldable pub placed_fixed : ℕ → ℕ → Rights → List ℕ → List Range → Placed
+placed_fixed at size rights bytes memory =
+    if touches_code memory at (part_inside at size) then unplaced EACCES memory
+    else if is_outside at size then unplaced ENOMEM memory
+    else placed_at at size rights bytes memory
 
 -- at the highest free range
-abbrev pub mapped_free : Option ℕ → ℕ → Rights → Shared → Answered
-mapped_free None size rights shared = refuses ENOMEM shared
-mapped_free (Some at) size rights shared = mapped_at at size rights shared
+abbrev pub placed_free : Option ℕ → ℕ → Rights → List ℕ → List Range → Placed
+placed_free None size rights bytes memory = unplaced ENOMEM memory
+placed_free (Some at) size rights bytes memory = placed_at at size rights bytes memory
 
-abbrev pub anywhere_refusals : ℕ → List Refusal
-anywhere_refusals flags = refusal (not (is_anonymous flags)) ENODEV ∷ []
+unfoldable pub placed_anywhere : ℕ → Rights → List ℕ → List Range → Placed
+placed_anywhere count rights bytes memory = placed_free (free_place memory count) (page_size * count) rights bytes memory
 
-unfoldable pub mapped_anywhere : ℕ → Rights → ℕ → Shared → Answered
-mapped_anywhere count rights flags shared =
-    unless (anywhere_refusals flags) shared (mapped_free (free_place shared.memory count) (page_size * count) rights shared)
+-- at its place, or anywhere
+abbrev pub placed_so : ℕ → ℕ → Rights → ℕ → List ℕ → List Range → Placed
+placed_so at count rights flags bytes memory =
+    if is_fixed flags
+    then placed_fixed at (page_size * count) rights bytes memory
+    else placed_anywhere count rights bytes memory
 
--- of a descriptor that names no device EBADF, and of a device ENODEV
+abbrev pub with_placed : Placed → Shared → Answered
+with_placed placed shared = answers placed.answer (with_memory placed.memory shared)
+
+abbrev pub mapped_with : ℕ → ℕ → Rights → ℕ → Result (List ℕ) Errno → Shared → Answered
+mapped_with at count rights flags (Err errno) shared = refuses errno shared
+mapped_with at count rights flags (Ok bytes) shared = with_placed (placed_so at count rights flags bytes shared.memory) shared
+
+-- of a descriptor that isn't open EBADF
 abbrev pub mmap_refusals : ℕ → ℕ → ℕ → ℕ → ℕ → ℕ → Shared → List Refusal
 mmap_refusals at size protection flags descriptor offset shared =
     refusal (are_wrong flags || (size == 0 || (is_misaligned offset || (is_fixed flags && is_misaligned at)))) EINVAL
-    ∷ refusal (not (is_anonymous flags) && not (nat_lt descriptor (length shared.files.outputs))) EBADF
+    ∷ refusal (not (is_anonymous flags) && not (is_some (what descriptor shared.files))) EBADF
     ∷ refusal (asks_to_execute protection) EACCES
+    ∷ refusal (keeps_maps flags && any_mapped shared.memory at (part_inside at (rounded_up size))) EEXIST
     ∷ []
 
 unfoldable pub mmap : ℕ → ℕ → ℕ → ℕ → ℕ → ℕ → Shared → Answered
-mmap at size protection flags descriptor offset shared = unless (mmap_refusals at size protection flags descriptor offset shared) shared (
-    if is_fixed flags
-    then mapped_fixed at (rounded_up size) (rights_of protection) flags shared
-    else mapped_anywhere (pages_of size) (rights_of protection) flags shared
-    )
+mmap at size protection flags descriptor offset shared =
+    unless (mmap_refusals at size protection flags descriptor offset shared) shared
+    (mapped_with at (pages_of size) (rights_of protection) flags (contents flags descriptor offset (rounded_up size) shared.files) shared)
 
 -- ---- brk(2)
 

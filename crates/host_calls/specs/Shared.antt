@@ -4,12 +4,8 @@
 use Rattle.std.specs.Prelude.{ℕ, zero, suc, ◌+◌, ◌-◌, ◌^◌, ◌++◌, [], min, List, slice_set, slice_index_or}
 use Rattle.guest_pages.specs.Ranges.{Range}
 use Rattle.word_memory.specs.declared.reservations.Held.{Held}
+use Rattle.file_table.specs.State.{Files}
 use Rattle.host_calls.specs.Queue.{Queue}
-
--- what descriptors lead to
-pub record Files : Type 0 where
-  -- what was written to each device
-  pub outputs : List (List ℕ)
 
 -- the program's break: where it can begin, on a page's boundary, and where it is
 pub record ProgramBreak : Type 0 where
@@ -20,6 +16,7 @@ pub record Shared : Type 0 where
   pub memory : List Range
   -- the reservations of threads
   pub held : List Held
+  -- the tree, the descriptors with what they lead to, and the devices
   pub files : Files
   pub queue : Queue
   pub program_break : ProgramBreak

@@ -43,7 +43,26 @@ impl Host {
     {
         let [a0, a1, a2, a3, a4, a5] = call.args;
         match call.no {
+            CallNo::Dup => Ok(self.dup(a0)),
+            CallNo::Dup3 => Ok(self.dup3(a0, a1, a2)),
+            CallNo::Fcntl => Ok(self.fcntl(a0, a1, a2)),
+            CallNo::Ioctl => Ok(self.ioctl(a0)),
+            CallNo::Mkdirat => self.mkdirat(a0, a1),
+            CallNo::Unlinkat => self.unlinkat(a0, a1, a2),
+            CallNo::Ftruncate => self.ftruncate(a0, a1),
+            CallNo::Openat => self.openat(a0, a1, a2),
+            CallNo::Close => Ok(self.close(a0)),
+            CallNo::Getdents64 => self.getdents64(thread, a0, a1, a2),
+            CallNo::Lseek => Ok(self.lseek(a0, a1, a2)),
+            CallNo::Read => Ok(self.read(thread, a0, a1, a2)),
             CallNo::Write => self.write(a0, a1, a2),
+            CallNo::Readv => self.readv(thread, a0, a1, a2),
+            CallNo::Writev => self.writev(a0, a1, a2),
+            CallNo::Pread64 => Ok(self.pread64(thread, a0, a1, a2, a3)),
+            CallNo::Pwrite64 => self.pwrite64(a0, a1, a2, a3),
+            CallNo::Readlinkat => self.readlinkat(a0, a1),
+            CallNo::Newfstatat => self.newfstatat(thread, a0, a1, a2, a3),
+            CallNo::Fstat => self.fstat(thread, a0, a1),
             CallNo::ClockGettime => self.clock_gettime(thread, a0, a1),
             CallNo::SchedYield => Ok(self.sched_yield()),
             CallNo::Uname => self.uname(thread, a0),
@@ -59,27 +78,8 @@ impl Host {
             CallNo::Mprotect => self.mprotect(a0, a1, a2),
             CallNo::Prlimit64 => self.prlimit64(thread, a0, a1, a2, a3),
             CallNo::Getrandom => self.getrandom(thread, a0, a1),
-            CallNo::Dup
-            | CallNo::Dup3
-            | CallNo::Fcntl
-            | CallNo::Ioctl
-            | CallNo::Mkdirat
-            | CallNo::Unlinkat
-            | CallNo::Ftruncate
-            | CallNo::Openat
-            | CallNo::Close
-            | CallNo::Pipe2
-            | CallNo::Getdents64
-            | CallNo::Lseek
-            | CallNo::Read
-            | CallNo::Readv
-            | CallNo::Writev
-            | CallNo::Pread64
-            | CallNo::Pwrite64
+            CallNo::Pipe2
             | CallNo::Ppoll
-            | CallNo::Readlinkat
-            | CallNo::Newfstatat
-            | CallNo::Fstat
             | CallNo::Exit
             | CallNo::ExitGroup
             | CallNo::SetTidAddress

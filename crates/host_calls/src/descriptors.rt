@@ -1,62 +1,111 @@
-//! Calls on open descriptors.
+//! Calls that make, change and close descriptors. Each costs by the number of descriptors, at most 256.
 
-ghost use Rattle.std.specs.Prelude.{◌≡◌, ◌≤◌, None, IfOk, IfSome, IfNone, IsSome, OnErr};
-ghost use Rattle.guest_pages.specs.Faults.{first_fault, readable};
-ghost use Rattle.guest_pages.specs.Operations.{bytes_at};
-ghost use Rattle.host_calls.specs.Descriptors.{write};
+ghost use Rattle.std.specs.Prelude.{◌≡◌};
+ghost use Rattle.host_calls.specs.Descriptors.{close, dup, dup3, fcntl, ioctl};
 ghost use Rattle.host_calls.specs.Host.{gives, shared_of};
 
 use crate::host::Host;
 use file_tree::Errno;
-use guest_pages::{Pages, READABLE};
-use le_fields::Bytes;
-use std::alloc::{AllocError, Global};
 
-/// The most bytes that a write moves.
-const MOST_BYTES: u64 = 1_048_576;
+/// The flag of dup3 by which a descriptor is closed by execve.
+const CLOSE_ON_EXEC: u64 = 0x80000;
+
+/// The flags that a description keeps.
+const KEPT: u64 = 0x38C03;
 
 impl Host {
-    /// Writes bytes of the memory to a device, in time that their number bounds, over many calls.
+    /// The least free descriptor names what another one names.
     ///
-    /// References: write(2).
-    #[tactic(auto, unfolding(crate::specs::Descriptors::write))]
-    pub(crate) fn write(&mut self, descriptor: u64, at: u64, wish: u64) -> Result<i64, AllocError>
-        ensures answer { IfOk result (λ answer. gives answer self.new ≡ write descriptor at wish (shared_of self.old)) }
+    /// References: dup(2).
+    #[tactic(auto, unfolding(crate::specs::Descriptors::dup))]
+    pub(crate) fn dup(&mut self, fd: u64) -> i64
+        ensures answer { gives result self.new ≡ dup fd (shared_of self.old) }
         ensures pending { self.new.pending ≡ self.old.pending }
-        ensures err { OnErr result (self.new ≡ self.old) }
     {
-        if self.outputs.len() as u64 <= descriptor {
-            return Ok(-Errno::EBADF.code());
-        }
-        let count = wish.min(MOST_BYTES);
-        match read_bytes(self.outputs.alloc(), &self.pages, at, count)? {
-            Some(bytes) => {
-                self.outputs.write(descriptor as usize, bytes.as_slice())?;
-                Ok(count as i64)
-            }
-            None => Ok(-Errno::EFAULT.code()),
+        match self.files.dup(fd, 0, false) {
+            Ok(to) => i64::from(to),
+            Err(errno) => -errno.code(),
         }
     }
-}
 
-/// The bytes of a range, none where it can't be read whole. It takes memory for them.
-fn read_bytes(
-    alloc: Global,
-    pages: &Pages,
-    at: u64,
-    count: u64,
-) -> Result<Option<Bytes>, AllocError>
-    requires { count ≤ 1048576 }
-    ensures some { IfOk result (λ read. IfSome read (λ bytes. (first_fault readable pages.now at count ≡ None) × (bytes ≡ bytes_at pages.now at count))) }
-    ensures none { IfOk result (λ read. IfNone read (IsSome (first_fault readable pages.now at count))) }
-{
-    if pages.allows(at, count, READABLE).is_err() {
-        return Ok(None);
+    /// A descriptor that is given names what another one names.
+    ///
+    /// References: dup3(2).
+    #[tactic(auto, unfolding(crate::specs::Descriptors::dup3))]
+    pub(crate) fn dup3(&mut self, fd: u64, to: u64, flags: u64) -> i64
+        ensures answer { gives result self.new ≡ dup3 fd to flags (shared_of self.old) }
+        ensures pending { self.new.pending ≡ self.old.pending }
+    {
+        if flags != 0 && flags != CLOSE_ON_EXEC {
+            return -Errno::EINVAL.code();
+        }
+        match self.files.dup_to(fd, to, flags == CLOSE_ON_EXEC) {
+            Ok(to) => i64::from(to),
+            Err(errno) => -errno.code(),
+        }
     }
-    let mut bytes = Vec::new(alloc);
-    bytes.resize(count as usize, 0)?;
-    match pages.copy_out(at, bytes.as_mut_slice()) {
-        Ok(()) => Ok(Some(Bytes::from_vec(bytes))),
-        Err(_) => Ok(None),
+
+    /// Makes a descriptor, or tells or changes the flags of one.
+    ///
+    /// References: fcntl(2).
+    #[tactic(auto, unfolding(crate::specs::Descriptors::fcntl), using(std::proofs::lemmas::Nat::and_le_r))]
+    pub(crate) fn fcntl(&mut self, fd: u64, command: u64, argument: u64) -> i64
+        ensures answer { gives result self.new ≡ fcntl fd command argument (shared_of self.old) }
+        ensures pending { self.new.pending ≡ self.old.pending }
+    {
+        match command {
+            0 => match self.files.dup(fd, argument, false) {
+                Ok(to) => i64::from(to),
+                Err(errno) => -errno.code(),
+            },
+            1030 => match self.files.dup(fd, argument, true) {
+                Ok(to) => i64::from(to),
+                Err(errno) => -errno.code(),
+            },
+            1 => match self.files.what(fd) {
+                Some(opened) => i64::from(opened.close_on_exec),
+                None => -Errno::EBADF.code(),
+            },
+            2 => match self.files.set_close_on_exec(fd, argument % 2 == 1) {
+                Ok(()) => 0,
+                Err(errno) => -errno.code(),
+            },
+            3 => match self.files.what(fd) {
+                Some(opened) => (opened.flags & KEPT) as i64,
+                None => -Errno::EBADF.code(),
+            },
+            4 => match self.files.set_flags(fd, argument) {
+                Ok(()) => 0,
+                Err(errno) => -errno.code(),
+            },
+            _ => -Errno::EINVAL.code(),
+        }
+    }
+
+    /// No descriptor is a terminal.
+    ///
+    /// References: ioctl(2).
+    #[tactic(auto, unfolding(crate::specs::Descriptors::ioctl))]
+    pub(crate) fn ioctl(&self, fd: u64) -> i64
+        ensures { gives result self.now ≡ ioctl fd (shared_of self.now) }
+    {
+        if self.files.what(fd).is_some() {
+            return -Errno::ENOTTY.code();
+        }
+        -Errno::EBADF.code()
+    }
+
+    /// Closes a descriptor.
+    ///
+    /// References: close(2).
+    #[tactic(auto, unfolding(crate::specs::Descriptors::close))]
+    pub(crate) fn close(&mut self, fd: u64) -> i64
+        ensures answer { gives result self.new ≡ close fd (shared_of self.old) }
+        ensures pending { self.new.pending ≡ self.old.pending }
+    {
+        match self.files.close(fd) {
+            Ok(_) => 0,
+            Err(errno) => -errno.code(),
+        }
     }
 }

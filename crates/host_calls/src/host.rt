@@ -2,8 +2,8 @@ ghost use Rattle.std.specs.Prelude.{◌≡◌};
 ghost use Rattle.host_calls.specs.Shared.{clock_after, later_clock};
 
 use crate::breaks::Break;
-use crate::outputs::Outputs;
 use crate::queue::Pending;
+use file_table::Files;
 use guest_pages::Pages;
 use word_memory::Reservations;
 
@@ -12,7 +12,8 @@ use word_memory::Reservations;
 pub struct Host {
     pub pages: Pages,
     pub held: Reservations,
-    pub outputs: Outputs,
+    /// The tree, the descriptors with what they lead to, and the devices.
+    pub files: Files,
     pub pending: Pending,
     pub program_break: Break,
     /// How many random bytes were drawn, modulo 2^64.

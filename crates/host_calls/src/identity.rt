@@ -61,7 +61,7 @@ impl Host {
         ensures pending { self.new.pending ≡ self.old.pending }
         ensures err { OnErr result (self.new ≡ self.old) }
     {
-        let bytes = names(self.outputs.alloc())?;
+        let bytes = names(self.files.alloc())?;
         Ok(self.store(thread, at, bytes.as_slice(), 0))
     }
 
@@ -101,7 +101,7 @@ impl Host {
         if old == 0 {
             return Ok(0);
         }
-        let bytes = limits(self.outputs.alloc(), resource)?;
+        let bytes = limits(self.files.alloc(), resource)?;
         Ok(self.store(thread, old, bytes.as_slice(), 0))
     }
 
@@ -114,7 +114,7 @@ impl Host {
         ensures pending { self.new.pending ≡ self.old.pending }
         ensures err { OnErr result (self.new ≡ self.old) }
     {
-        let bytes = drawn(self.outputs.alloc(), self.drawn, wish.min(MOST_RANDOM))?;
+        let bytes = drawn(self.files.alloc(), self.drawn, wish.min(MOST_RANDOM))?;
         let count = bytes.len() as u64;
         if self.pages.copy_in(at, bytes.as_slice()).is_err() {
             return Ok(-Errno::EFAULT.code());

@@ -2,9 +2,9 @@
 //!
 //! # Model
 //!
-//! `Host` is seen as `Shared` (`shared_of`): the memory, the reservations, what was written to each device, the pending
-//! signals with the next id, the clock. Each field is the record of its owner. Marks on pending signals, which only the
-//! emulator has, are seen beside it.
+//! `Host` is seen as `Shared` (`shared_of`): the memory, the reservations, the tree of files with descriptors and devices,
+//! the pending signals with the next id, the program's break, how many random bytes were drawn, the clock. Each field is the
+//! record of its owner. Marks on pending signals, which only the emulator has, are seen beside it.
 //!
 //! A call is one definition and one function, in the file of its family (`specs/Identity.antt` and `src/identity.rt`, and so
 //! on), with its manual page. One dispatch in `specs/Immediate.antt` and one in `src/calls.rt` choose it by its name; it
@@ -15,6 +15,12 @@
 //! `immediate` makes exactly the definition of that name. What every call owes is one record (`Owes`): the code stays, nothing
 //! can be both written and executed, outputs only grow and at most one does, reservations only end, of pending signals it only
 //! sends more, and no time passes. So neither the core nor the process machine names a call that is made here.
+//!
+//! # Cost
+//!
+//! A call costs by the bytes that it moves or fills: a cut that lengthens a file, and a write behind its end, by the zeros
+//! too. Beside that, calls on descriptors go through at most 256 of them, those on paths cost by the path and by the
+//! logarithm of the names in the directories on it, and those on maps by their pages.
 //!
 //! # Sources
 //!
@@ -27,16 +33,20 @@ mod descriptors;
 mod host;
 mod identity;
 mod maps;
-mod outputs;
+mod moving;
+mod paths;
+mod pieces;
 mod queue;
+mod stat;
 mod storing;
 mod time;
 
 pub use breaks::Break;
 pub use calls::immediate;
 pub use host::Host;
-pub use outputs::Outputs;
 pub use queue::{Instance, Pending};
 
+#[cfg(test)]
+mod file_tests;
 #[cfg(test)]
 mod tests;

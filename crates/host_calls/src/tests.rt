@@ -1,11 +1,19 @@
 use super::*;
 use call_table::{Call, CallNo};
+use file_table::Files;
+use file_tree::Tree;
 use guest_pages::{CHANGEABLE, PageFault, Pages, RUNNABLE, Width};
-use std::alloc::Global;
+use std::alloc::{AllocError, Global};
 use std::test::Fail;
 use word_memory::Reservations;
 
 const THREAD: u32 = 1000;
+
+/// An empty tree, and two devices as descriptors 0 and 1.
+pub fn files(alloc: Global) -> Result<Files, AllocError> {
+    let tree = Tree::new(alloc)?;
+    Files::new(alloc, tree, 2, None)
+}
 
 /// A system with two devices, whose memory has `hi` at 0x10000, nothing from 0x11000 on, and code at 0x15000.
 fn host(alloc: Global) -> Result<Host, Fail> {
@@ -22,7 +30,7 @@ fn host(alloc: Global) -> Result<Host, Fail> {
     Ok(Host {
         pages,
         held: Reservations::new(alloc),
-        outputs: Outputs::new(alloc, 2)?,
+        files: files(alloc)?,
         pending: Pending::new(alloc)?,
         program_break: Break::behind(0x1_F001),
         drawn: 16,
@@ -83,7 +91,7 @@ fn calls_answer_as_their_pages_say(rt: HostRuntime) -> Result<(), Fail> {
         (CallNo::Getrandom, [0x1_0600, 1000, 0, 0, 0, 0], 256),
         (CallNo::Getrandom, [0x1_0FFF, 2, 0, 0, 0, 0], -14),
         // calls that aren't there yet
-        (CallNo::Openat, [0; 6], -38),
+        (CallNo::Pipe2, [0; 6], -38),
         (CallNo::Clone, [0; 6], -38),
     ];
     for (no, args, wanted) in table {
@@ -92,10 +100,10 @@ fn calls_answer_as_their_pages_say(rt: HostRuntime) -> Result<(), Fail> {
     // the random bytes go on behind the 16 of the stack: 167 k + 13 modulo 256 for k = 16 and 17
     assert_eq!(rt; host.pages.load(0x1_0500, Width::Two), Ok(0x247D));
     assert_eq!(rt; host.pages.load(0x1_0400, Width::Eight), Ok(8_388_608));
-    let Host { outputs, .. } = host;
-    if outputs.len() > 1 {
-        assert_eq!(rt; outputs.get(1), b"hi".as_slice());
-        assert_eq!(rt; outputs.get(0), [].as_slice());
+    let Host { files, .. } = host;
+    if files.devices() > 1 {
+        assert_eq!(rt; files.output(1), b"hi".as_slice());
+        assert_eq!(rt; files.output(0), [].as_slice());
     } else {
         assert!(rt; false);
     }

@@ -28,7 +28,7 @@ impl Host {
         if clock != 0 && clock != 1 {
             return Ok(-Errno::EINVAL.code());
         }
-        let bytes = time_bytes(self.outputs.alloc(), self.clock)?;
+        let bytes = time_bytes(self.files.alloc(), self.clock)?;
         Ok(self.store(thread, at, bytes.as_slice(), 0))
     }
 }

@@ -1,6 +1,7 @@
 -- A Linux process, as far as programs see it: a system of tasks. It knows no place, flag, window or journal: signals act on
 -- it directly, between two instructions.
 -- Source: signal(7); the form is the project's own.
+use Rattle.file_table.specs.State.{outputs_of}
 use Rattle.std.specs.Prelude.{ℕ, List, Option}
 use Rattle.guest_core.specs.declared.ends.End.{End}
 use Rattle.guest_core.specs.Machine.{first_thread}
@@ -23,7 +24,7 @@ begun program devices = alone (first_shared program devices) first_thread (recor
 
 -- what is seen of a run: the bytes written to each device, in order, and the end
 abbrev pub seen_outputs : ProcessState → List (List ℕ)
-seen_outputs process = process.shared.files.outputs
+seen_outputs process = outputs_of process.shared.files
 
 abbrev pub seen_end : ProcessState → Option End
 seen_end process = process.end

@@ -19,7 +19,7 @@
 //!
 //! # Sources
 //!
-//! signal(7), write(2), exit_group(2) and the RISC-V unprivileged manual. The labels are the project's own.
+//! signal(7), exit_group(2), the manual pages of the calls, and the RISC-V unprivileged manual. The labels are the project's own.
 #![tactic(auto)]
 
 mod following;

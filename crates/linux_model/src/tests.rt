@@ -1,21 +1,10 @@
 use super::*;
+use elf_build::whole_program;
 use elf_file::read;
 use file_tree::Text;
 use guest_core::{End, FIRST_THREAD, start};
 use std::alloc::Global;
 use std::test::Fail;
-
-/// The headers of a file that is loaded whole at 0x10000, and whose code begins at 0x10078. Its two sizes stand at 96 and 104.
-const HEADERS: [u8; 120] = [
-    0x7F, b'E', b'L', b'F', 2, 1, 1, 0, 0, 0, 0, 0, 0, 0, 0, 0, // identity
-    2, 0, 243, 0, 1, 0, 0, 0, 0x78, 0, 1, 0, 0, 0, 0, 0, // type, machine, version, entry
-    64, 0, 0, 0, 0, 0, 0, 0, 0, 0, 0, 0, 0, 0, 0, 0, // program headers, sections
-    1, 0, 0, 0, 64, 0, 56, 0, 1, 0, 0, 0, 0, 0, 0, 0, // flags, sizes, numbers
-    1, 0, 0, 0, 5, 0, 0, 0, 0, 0, 0, 0, 0, 0, 0, 0, // type, rights, offset
-    0, 0, 1, 0, 0, 0, 0, 0, 0, 0, 1, 0, 0, 0, 0, 0, // address
-    0, 0, 0, 0, 0, 0, 0, 0, 0, 0, 0, 0, 0, 0, 0, 0, // sizes
-    0, 16, 0, 0, 0, 0, 0, 0, // alignment
-];
 
 /// Ends with 7: two instructions and a call.
 const EXITS: [u32; 3] = [0x0070_0513, 0x05E0_0893, 0x0000_0073];
@@ -29,16 +18,9 @@ const CALL: Label = Label::Call(FIRST_THREAD);
 /// The labels of that program's five steps, of which two have no label but a tick.
 const LABELS: [Label; 8] = [TICK, INSTR, TICK, INSTR, TICK, TICK, TICK, CALL];
 
-/// The process of a file of `size` bytes: the headers, these words, and data behind them.
-fn process(alloc: Global, words: &[u32], data: &[u8], size: u8) -> Result<Process, Fail> {
-    let mut headers = HEADERS;
-    headers[96] = size;
-    headers[104] = size;
-    let mut bytes = headers.to_vec(alloc)?;
-    for word in words {
-        bytes.extend_from_slice(&word.to_le_bytes())?;
-    }
-    bytes.extend_from_slice(data)?;
+/// The process of a file of these words, which stand at 0x10078, with data behind them.
+fn process(alloc: Global, words: &[u32], data: &[u8]) -> Result<Process, Fail> {
+    let bytes = whole_program(alloc, words, data)?;
     let elf = read(alloc, &bytes)?;
     let name = [Text::new(alloc, "a")?];
     Ok(Process::of(start(alloc, &elf, &name, &[], 3)?))
@@ -46,7 +28,7 @@ fn process(alloc: Global, words: &[u32], data: &[u8], size: u8) -> Result<Proces
 
 #[test]
 fn ends_with_its_code(rt: HostRuntime) -> Result<(), Fail> {
-    let process = follow(process(rt.alloc(), &EXITS, &[], 132)?, &LABELS)?;
+    let process = follow(process(rt.alloc(), &EXITS, &[])?, &LABELS)?;
     assert!(rt; matches!(process.ended(), Some(End::Exit(7))));
     match process.regs(FIRST_THREAD) {
         Some(regs) => assert_eq!(rt; regs.register(17), 94),
@@ -60,7 +42,7 @@ fn ends_with_its_code(rt: HostRuntime) -> Result<(), Fail> {
 
 #[test]
 fn lives_before_the_last_label(rt: HostRuntime) -> Result<(), Fail> {
-    let process = follow(process(rt.alloc(), &EXITS, &[], 132)?, &LABELS[..7])?;
+    let process = follow(process(rt.alloc(), &EXITS, &[])?, &LABELS[..7])?;
     assert!(rt; process.ended().is_none());
     Ok(())
 }
@@ -83,7 +65,7 @@ fn the_first_label_that_is_not_allowed(rt: HostRuntime) -> Result<(), Fail> {
         (&illegal, &[INSTR, Label::Take(FIRST_THREAD, 0), TICK], 2),
     ];
     for (words, labels, index) in table {
-        match follow(process(rt.alloc(), words, &[], 132)?, labels) {
+        match follow(process(rt.alloc(), words, &[])?, labels) {
             Err(FollowFault::NotAllowed(found)) => assert_eq!(rt; found, index),
             _ => assert!(rt; false, "at {index}"),
         }
@@ -110,7 +92,7 @@ fn writes_to_its_device(rt: HostRuntime) -> Result<(), Fail> {
         TICK, INSTR, TICK, INSTR, TICK, INSTR, TICK, INSTR, TICK, INSTR, TICK, TICK, TICK, CALL,
         TICK, TICK, INSTR, TICK, INSTR, TICK, TICK, TICK, CALL,
     ];
-    let process = follow(process(rt.alloc(), &words, b"hi\n", 159)?, &labels)?;
+    let process = follow(process(rt.alloc(), &words, b"hi\n")?, &labels)?;
     assert_eq!(rt; process.output(1), Some(b"hi\n".as_slice()));
     assert_eq!(rt; process.output(0), Some([].as_slice()));
     assert!(rt; matches!(process.ended(), Some(End::Exit(0))));

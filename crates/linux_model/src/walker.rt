@@ -1,3 +1,4 @@
+ghost use Rattle.file_table.specs.State.{outputs_of};
 ghost use Rattle.std.specs.Prelude.{◌≡◌, ◌↔◌, ◌<◌, [], ◌∷◌, None, Some, map, IsSome, IfSome, IfOk, OnErr, Ok, false, MatchBool, length, slice_index_or};
 ghost use Rattle.std.specs.Option.{option_copied, option_map};
 ghost use Rattle.guest_core.specs.System.{found};
@@ -69,11 +70,11 @@ impl Process {
 
     /// What was written to a device, in order.
     pub fn output(&self, device: usize) -> Option<&[u8]>
-        ensures within { IsSome result ↔ (device < length self.now.shared.files.outputs) }
-        ensures value { IfSome result (λ output. output.now ≡ slice_index_or self.now.shared.files.outputs device []) }
+        ensures within { IsSome result ↔ (device < length (outputs_of self.now.shared.files)) }
+        ensures value { IfSome result (λ output. output.now ≡ slice_index_or (outputs_of self.now.shared.files) device []) }
     {
-        if device < self.state.host.outputs.len() {
-            Some(self.state.host.outputs.get(device))
+        if device < self.state.host.files.devices() {
+            Some(self.state.host.files.output(device))
         } else {
             None
         }

@@ -11,9 +11,9 @@ mod hostile_tests;
 mod tests;
 
 use cli_words::WordsFault;
-use emu_top::real_folder::RealFolder;
 use emu_top::streams::{ErrorSink, Stream, StreamDevice};
 use emu_top::top::{refuse_words, solo_top};
+use image_store::RealFolder;
 use std::alloc::{AllocError, Global};
 use std::process::ExitCode;
 use std::{env, fs, io};

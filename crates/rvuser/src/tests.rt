@@ -1,17 +1,17 @@
 ghost use Rattle.std.specs.Prelude.{◌≡◌, length, IfOk};
 
+use elf_build::program;
 use elf_file::ElfFault;
 use emu_top::cause::{Cause, Part};
 use emu_top::device::{Device, DeviceFailed};
-use emu_top::folder::{Entry as FolderEntry, Kind};
 use emu_top::journal::{Entry, Journal};
 use emu_top::memory_device::MemDevice;
-use emu_top::memory_folder::MemFolder;
 use emu_top::memory_sink::MemSink;
 use emu_top::sink::{Sink, SinkFailed};
 use emu_top::top::{Finished, TopFault, solo_top};
 use file_tree::Text;
 use guest_core::End;
+use image_store::{Entries, Entry as FolderEntry, Kind, MemFolder};
 use le_fields::Bytes;
 use std::alloc::{AllocError, Global};
 use std::test::Fail;
@@ -50,27 +50,7 @@ const WRITES_TWICE: [u32; 12] = [
 
 /// A file whose one segment has these words and bytes at 0x10000, from offset 4096 on.
 pub fn file_of(alloc: Global, words: &[u32], data: &[u8]) -> Result<Vec<u8>, AllocError> {
-    let mut bytes = Vec::new(alloc);
-    // 64 bits, little-endian, version 1; type 2, machine 243, version 1; the entry
-    bytes.extend_from_slice(&[0x7F, b'E', b'L', b'F', 2, 1, 1, 0, 0, 0, 0, 0, 0, 0, 0, 0])?;
-    bytes.extend_from_slice(&[2, 0, 243, 0, 1, 0, 0, 0])?;
-    bytes.extend_from_slice(&0x10000u64.to_le_bytes())?;
-    // the program headers at 64, no sections; flags 1, sizes, one program header
-    bytes.extend_from_slice(&64u64.to_le_bytes())?;
-    bytes.extend_from_slice(&0u64.to_le_bytes())?;
-    bytes.extend_from_slice(&[1, 0, 0, 0, 64, 0, 56, 0, 1, 0, 0, 0, 0, 0, 0, 0])?;
-    // loaded, readable and executable
-    bytes.extend_from_slice(&[1, 0, 0, 0, 5, 0, 0, 0])?;
-    let size = words.len().saturating_mul(4).saturating_add(data.len()) as u64;
-    for field in [4096, 0x10000, 0x10000, size, size, 4096] {
-        bytes.extend_from_slice(&field.to_le_bytes())?;
-    }
-    bytes.resize(4096, 0)?;
-    for word in words {
-        bytes.extend_from_slice(&word.to_le_bytes())?;
-    }
-    bytes.extend_from_slice(data)?;
-    Ok(bytes)
+    program(alloc, words, data)
 }
 
 /// Three devices, of which device 1 fails at the takes of these numbers.
@@ -114,7 +94,10 @@ fn folder(
         kind: Kind::File,
         bytes: Bytes::from_vec(bytes),
     })?;
-    Ok(MemFolder::new(entries, failing_lists, failing_reads))
+    match Entries::new(alloc, entries) {
+        Ok(entries) => Ok(MemFolder::new(entries, failing_lists, failing_reads)),
+        Err(_) => Err(AllocError),
+    }
 }
 
 fn words_of(alloc: Global, words: &[&str]) -> Result<Vec<String>, AllocError> {
@@ -367,6 +350,40 @@ fn calls(number: u32, descriptor: u32, address: u32, length: u32) -> [u32; 7] {
     ]
 }
 
+/// dup of 1, which is 3; close of 1; write of two bytes of the code to 3, and to 1; exit with the last answer.
+const WRITES_BY_A_DUPLICATE: [u32; 16] = [
+    0x0170_0893,
+    0x0010_0513,
+    0x0000_0073,
+    0x0390_0893,
+    0x0010_0513,
+    0x0000_0073,
+    0x0400_0893,
+    0x0030_0513,
+    0x0001_05B7,
+    0x0020_0613,
+    0x0000_0073,
+    0x0400_0893,
+    0x0010_0513,
+    0x0000_0073,
+    0x05E0_0893,
+    0x0000_0073,
+];
+
+#[test]
+fn a_duplicate_writes_where_the_first_was_closed(rt: HostRuntime) -> Result<(), Fail> {
+    let bytes = file_of(rt.alloc(), &WRITES_BY_A_DUPLICATE, &[])?;
+    let (answer, _) = answer_to(rt.alloc(), bytes)?;
+    let Ok(finished) = answer else {
+        return Err("it finishes")?;
+    };
+    // EBADF is 9
+    assert_eq!(rt; finished.status, 247);
+    assert_eq!(rt; contents(&finished.devices, 1), [0x93, 0x08].as_slice());
+    assert_eq!(rt; contents(&finished.devices, 2), [].as_slice());
+    Ok(())
+}
+
 #[test]
 fn answers_of_calls(rt: HostRuntime) -> Result<(), Fail> {
     // write of no byte, of two bytes, to no device, from no memory, of the zeros behind the bytes of the file; and no call
@@ -380,7 +397,7 @@ fn answers_of_calls(rt: HostRuntime) -> Result<(), Fail> {
         (1000, 1, 0x10, 2, 256 - 38),
         // the id of the process, 1000, of which the status is the low byte; and a call that is not there yet
         (172, 0, 0x10, 0, 1000 % 256),
-        (56, 0, 0x10, 0, 256 - 38),
+        (59, 0, 0x10, 0, 256 - 38),
     ];
     for (number, descriptor, address, length, status) in table {
         let words = calls(number, descriptor, address, length);

@@ -1,5 +1,5 @@
 -- Pages get the bytes of segments.
-use Rattle.std.proofs.Common.{◌≡◌, ℕ, ◌+◌, ◌-◌, ◌*◌, ◌/◌, ◌%◌, ◌≤◌, ◌<◌, ◌⊎◌, inl, inr, Bool, true, false, if◌then◌else◌, List, [], ◌∷◌, length, get_or, take, drop, Some, None, refl, ap, sym, subst, ◌∙◌, arith, length-take, length-drop}
+use Rattle.std.proofs.Common.{◌≡◌, ℕ, ◌+◌, ◌-◌, ◌*◌, ◌/◌, ◌%◌, ◌^◌, ◌≤◌, ◌<◌, ◌⊎◌, inl, inr, Bool, true, false, if◌then◌else◌, List, [], ◌∷◌, length, get_or, take, drop, Some, None, refl, ap, sym, subst, ◌∙◌, arith, length-take, length-drop}
 use Rattle.std.proofs.lemmas.Grind.{common_steps}
 use mathlib.Core.Path.{fun_ext}
 use Rattle.std.proofs.lemmas.List.{get_or-take, get_or-drop}
@@ -47,7 +47,7 @@ there_by : (t : Bool) (rights had : Rights) (byte : ℕ) → rights ≡ rights_i
 there_by true rights had byte is some = refl
 there_by false rights had byte is some = sym some ∙ ap has_none is
 
-is_there : (page : ℕ) (rights : Rights) (m : ℕ → Bool) (r : ℕ → Rights) (b : ℕ → ℕ) (memory : List Range) → rights ≡ rights_in (cell_at memory (4096 * page)) → has_none rights ≡ false → HasPages m r b memory → m page ≡ true
+pub is_there : (page : ℕ) (rights : Rights) (m : ℕ → Bool) (r : ℕ → Rights) (b : ℕ → ℕ) (memory : List Range) → rights ≡ rights_in (cell_at memory (4096 * page)) → has_none rights ≡ false → HasPages m r b memory → m page ≡ true
 is_there page rights m r b memory is some has =
     there_by (m page) rights (r page) (b (4096 * page)) (is ∙ ap rights_in (there m r b memory page has)) some
 
@@ -55,11 +55,11 @@ keeps_by : (none : Bool) (byte : ℕ) → none ≡ false → (if none then 0 els
 keeps_by true byte some = cc
 keeps_by false byte some = refl
 
-own_in : (page p : ℕ) (own : Rights) (r : ℕ → Rights) → within page 1 p ≡ true → with_own page 1 own r p ≡ own
+pub own_in : (page p : ℕ) (own : Rights) (r : ℕ → Rights) → within page 1 p ≡ true → with_own page 1 own r p ≡ own
 own_in page p own r here = ap (λ (w : Bool). if w then own else r p) here
 
 -- it can be written
-can_write : (at page : ℕ) (bytes : List ℕ) (m : ℕ → Bool) (r : ℕ → Rights) (b : ℕ → ℕ) (memory : List Range) → page ≡ at / 4096 → at % 4096 + length bytes ≤ 4096 → m page ≡ true → HasPages m (with_own page 1 changeable r) b memory → first_fault writable memory at (length bytes) ≡ None
+pub can_write : (at page : ℕ) (bytes : List ℕ) (m : ℕ → Bool) (r : ℕ → Rights) (b : ℕ → ℕ) (memory : List Range) → page ≡ at / 4096 → at % 4096 + length bytes ≤ 4096 → m page ≡ true → HasPages m (with_own page 1 changeable r) b memory → first_fault writable memory at (length bytes) ≡ None
 unfolding paged
 can_write at page bytes m r b memory is near mapped has =
     fault_none writable memory at (length bytes)
@@ -76,17 +76,28 @@ back_by : (w : Bool) (rights had : Rights) (byte : ℕ) → (w ≡ true → righ
 back_by true rights had byte same = ap (λ (r : Rights). cell r byte) (same refl)
 back_by false rights had byte same = refl
 
+-- the page can be written for a while
+pub has_opened : (page : ℕ) (rights : Rights) (m : ℕ → Bool) (r : ℕ → Rights) (b : ℕ → ℕ) (memory opened : List Range) → rights ≡ rights_in (cell_at memory (4096 * page)) → has_none rights ≡ false → opened ≡ protected (4096 * page) (4096 * 1) changeable memory → HasPages m r b memory → HasPages m (with_own page 1 changeable r) b opened
+has_opened page rights m r b memory opened rights_is some opened_is has =
+    let mapped : m page ≡ true = is_there page rights m r b memory rights_is some has in
+    let found : rights ≡ r page = rights_is ∙ rights_there m r b memory page has mapped in
+    subst (λ (l : List Range). HasPages m (with_own page 1 changeable r) b l) (sym opened_is)
+    (has_protected page 1 changeable m r b memory has
+    (λ a here. keeps_by (has_none (r (a / 4096))) (b a) (ap (λ (p : ℕ). has_none (r p)) (one_within page (a / 4096) here) ∙ ap has_none (sym found) ∙ some)))
+
+-- and gets its bytes
+pub has_wrote : (at page : ℕ) (bytes : List ℕ) (rights : Rights) (m : ℕ → Bool) (r : ℕ → Rights) (b : ℕ → ℕ) (memory opened filled : List Range) → page ≡ at / 4096 → at % 4096 + length bytes ≤ 4096 → rights ≡ rights_in (cell_at memory (4096 * page)) → has_none rights ≡ false → opened ≡ protected (4096 * page) (4096 * 1) changeable memory → (first_fault writable opened at (length bytes) ≡ None → filled ≡ written at bytes opened) → HasPages m r b memory → HasPages m (with_own page 1 changeable r) (over at bytes b) filled
+has_wrote at page bytes rights m r b memory opened filled is near rights_is some opened_is filled_is has =
+    let mapped : m page ≡ true = is_there page rights m r b memory rights_is some has in
+    let ready = has_opened page rights m r b memory opened rights_is some opened_is has in
+    subst (λ (l : List Range). HasPages m (with_own page 1 changeable r) (over at bytes b) l) (sym (filled_is (can_write at page bytes m r b opened is near mapped ready)))
+    (has_written at bytes m (with_own page 1 changeable r) b opened ready)
+
 pub has_filled : (at page : ℕ) (bytes : List ℕ) (rights : Rights) (m : ℕ → Bool) (r : ℕ → Rights) (b : ℕ → ℕ) (memory opened filled closed : List Range) → page ≡ at / 4096 → at % 4096 + length bytes ≤ 4096 → rights ≡ rights_in (cell_at memory (4096 * page)) → has_none rights ≡ false → opened ≡ protected (4096 * page) (4096 * 1) changeable memory → (first_fault writable opened at (length bytes) ≡ None → filled ≡ written at bytes opened) → closed ≡ protected (4096 * page) (4096 * 1) rights filled → HasPages m r b memory → HasPages m r (over at bytes b) closed
 has_filled at page bytes rights m r b memory opened filled closed is near rights_is some opened_is filled_is closed_is has =
     let mapped : m page ≡ true = is_there page rights m r b memory rights_is some has in
     let found : rights ≡ r page = rights_is ∙ rights_there m r b memory page has mapped in
-    let ready : HasPages m (with_own page 1 changeable r) b opened =
-    subst (λ (l : List Range). HasPages m (with_own page 1 changeable r) b l) (sym opened_is)
-    (has_protected page 1 changeable m r b memory has
-    (λ a here. keeps_by (has_none (r (a / 4096))) (b a) (ap (λ (p : ℕ). has_none (r p)) (one_within page (a / 4096) here) ∙ ap has_none (sym found) ∙ some))) in
-    let wrote : HasPages m (with_own page 1 changeable r) (over at bytes b) filled =
-    subst (λ (l : List Range). HasPages m (with_own page 1 changeable r) (over at bytes b) l) (sym (filled_is (can_write at page bytes m r b opened is near mapped ready)))
-    (has_written at bytes m (with_own page 1 changeable r) b opened ready) in
+    let wrote = has_wrote at page bytes rights m r b memory opened filled is near rights_is some opened_is filled_is has in
     let done : HasPages m (with_own page 1 rights (with_own page 1 changeable r)) (over at bytes b) closed =
     subst (λ (l : List Range). HasPages m (with_own page 1 rights (with_own page 1 changeable r)) (over at bytes b) l) (sym closed_is)
     (has_protected page 1 rights m (with_own page 1 changeable r) (over at bytes b) filled wrote
@@ -179,3 +190,8 @@ loaded_by segments a = refl
 pub is_loaded : (segments : List SegmentImage) (memory : List Range) → HasPages (is_touched segments) (page_rights segments) (byte_at segments) memory → memory ≡ loaded segments
 unfolding loaded
 is_loaded segments memory has = has.is ∙ ap ranges_of (fun_ext (loaded_by segments))
+
+-- and the other way round
+pub loaded_is : (segments : List SegmentImage) → ((page : ℕ) → 2 ^ 26 ≤ page → is_touched segments page ≡ false) → HasPages (is_touched segments) (page_rights segments) (byte_at segments) (loaded segments)
+unfolding loaded
+loaded_is segments low = record { low = low; is = sym (ap ranges_of (fun_ext (loaded_by segments))) }

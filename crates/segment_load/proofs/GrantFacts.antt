@@ -60,7 +60,7 @@ out first count rights had page outside = ap (λ (w : Bool). if w then either ri
 into : (first count : ℕ) (rights : Rights) (had : ℕ → Rights) (page : ℕ) → first ≤ page → page < first + count → with_more first count rights had page ≡ either rights (had page)
 into first count rights had page low high = ap (λ (w : Bool). if w then either rights (had page) else had page) (within_inside first count page low high)
 
-whole_by : (first last : ℕ) (rights : Rights) (had : ℕ → Rights) (page : ℕ) → first < last → (page < first) ⊎ (first ≤ page) → (page < first + 1) ⊎ (first + 1 ≤ page) → (page < last) ⊎ (last ≤ page) → (page < last + 1) ⊎ (last + 1 ≤ page) → with_more last 1 rights (with_more (first + 1) (last - first - 1) rights (with_more first 1 rights had)) page ≡ with_more first (last - first + 1) rights had page
+pub whole_by : (first last : ℕ) (rights : Rights) (had : ℕ → Rights) (page : ℕ) → first < last → (page < first) ⊎ (first ≤ page) → (page < first + 1) ⊎ (first + 1 ≤ page) → (page < last) ⊎ (last ≤ page) → (page < last + 1) ⊎ (last + 1 ≤ page) → with_more last 1 rights (with_more (first + 1) (last - first - 1) rights (with_more first 1 rights had)) page ≡ with_more first (last - first + 1) rights had page
 whole_by first last rights had page order (inl below) b c d =
     out last 1 rights (with_more (first + 1) (last - first - 1) rights (with_more first 1 rights had)) page (inl (omega arith))
     ∙ out (first + 1) (last - first - 1) rights (with_more first 1 rights had) page (inl (omega arith))
@@ -108,7 +108,7 @@ none_between s (t ∷ others) page apart after before =
     let rest = none_between s others page (and_right (not (shares_byte s t)) (list_all (λ t. not (shares_byte s t)) others) apart) after before in
     rw here rest
 
-more_is : (s : SegmentImage) (others : List SegmentImage) (page : ℕ) → with_more (first_page s) (page_count s) (rights_by s.rights) (page_rights others) page ≡ page_rights (s ∷ others) page
+pub more_is : (s : SegmentImage) (others : List SegmentImage) (page : ℕ) → with_more (first_page s) (page_count s) (rights_by s.rights) (page_rights others) page ≡ page_rights (s ∷ others) page
 unfolding page_rights
 more_is s others page = ap (λ (w : Bool). if w then either (rights_by s.rights) (page_rights others page) else page_rights others page) (sym (touches_within s page))
 

@@ -6,3 +6,5 @@ pub mod GrantFacts
 pub mod FillFacts
 pub mod SeenFacts
 pub mod StoredFacts
+pub mod FullFacts
+pub mod RoomFacts

@@ -50,7 +50,7 @@ none_by false false true false true x-2 = refl
 none_by false false true false false x-2 = refl
 none_by false false false r-2 w-2 x-2 = refl
 
-either_none : (a b : Rights) → has_none (either a b) ≡ (has_none a && has_none b)
+pub either_none : (a b : Rights) → has_none (either a b) ≡ (has_none a && has_none b)
 unfolding either
 either_none a b = none_by a.read a.write a.execute b.read b.write b.execute
 
@@ -68,7 +68,7 @@ right_by true flags rest stored small is =
     ∙ right_bools (flags == 0) (has_none rest) stored is
 right_by false flags rest stored small is = is ∙ right_none (flags == 0) stored
 
-right_is : (segments : List SegmentImage) (page : ℕ) → AreWithin segments → not (has_none (page_rights segments page)) ≡ is_stored_by segments page
+pub right_is : (segments : List SegmentImage) (page : ℕ) → AreWithin segments → not (has_none (page_rights segments page)) ≡ is_stored_by segments page
 unfolding page_rights
 right_is [] page within = refl
 right_is (s ∷ segments) page within =
@@ -103,7 +103,7 @@ cell_right segments page within =
 -- ---- the pages one by one
 
 -- how many of the numbers from one on have a segment with a right
-count_stored : List SegmentImage → ℕ → ℕ → ℕ
+unfoldable pub count_stored : List SegmentImage → ℕ → ℕ → ℕ
 count_stored segments page zero = 0
 count_stored segments page (suc n) = one_if (is_stored_by segments page) + count_stored segments (page + 1) n
 
@@ -174,7 +174,7 @@ own_all false s later page (suc n) is all =
     let rest = own_all false s later (page + 1) n is (λ q low high. all q (omega arith) (omega arith)) in
     omega (arith, here, rest)
 
-inside_by : (byte : Bool) (s : SegmentImage) → has_byte s ≡ byte → end_of s ≤ 0x3F00000000 → first_page s + page_count s ≤ 2 ^ 26
+pub inside_by : (byte : Bool) (s : SegmentImage) → has_byte s ≡ byte → end_of s ≤ 0x3F00000000 → first_page s + page_count s ≤ 2 ^ 26
 unfolding page_count
 inside_by true s is high = rw is (omega arith)
 inside_by false s is high = rw is (omega arith)
@@ -202,7 +202,7 @@ count_none page (suc n) =
     let rest = count_none (page + 1) n in
     omega (arith, rest)
 
-all_counted : (segments : List SegmentImage) → AreWithin segments → count_stored segments 0 (2 ^ 26) ≡ pages_of segments
+pub all_counted : (segments : List SegmentImage) → AreWithin segments → count_stored segments 0 (2 ^ 26) ≡ pages_of segments
 unfolding pages_of
 all_counted [] within = count_none 0 (2 ^ 26)
 all_counted (s ∷ segments) within =

@@ -1,11 +1,14 @@
 -- How the memory comes about, by its pages.
 -- Source: the project's own.
-use Rattle.std.specs.Prelude.{◌≡◌, ◌≤◌, ◌-◌, ℕ, ◌/◌, ◌^◌, Bool, false, ◌||◌, if◌then◌else◌, List, get_or, length, Option, Some, None}
+use Rattle.std.specs.Prelude.{◌≡◌, ◌<◌, ◌≤◌, ◌-◌, ℕ, ◌/◌, ◌^◌, Bool, false, ◌||◌, if◌then◌else◌, List, get_or, length, Option, Some, None}
 use Rattle.elf_file.specs.Segments.{SegmentImage}
 use Rattle.guest_pages.specs.declared.rights.Rights.{Rights}
 use Rattle.guest_pages.specs.Cells.{Cell, cell}
 use Rattle.guest_pages.specs.Ranges.{Range, within, ranges_of}
-use Rattle.guest_pages.specs.Limits.{page_size}
+use Rattle.guest_pages.specs.Counting.{count_pages}
+use Rattle.guest_pages.specs.declared.fault.MapFault.{MapFault}
+use Rattle.guest_pages.specs.declared.fault.MapFault.TheVariants.{PagesFull, NotMapped, Memory}
+use Rattle.guest_pages.specs.Limits.{most_pages, page_size}
 use Rattle.segment_load.specs.Loading.{either, no_right, touches}
 
 -- what stands at an address, by the pages that are mapped, the rights of each page and the byte of each address
@@ -43,3 +46,13 @@ over start news bytes address =
 abbrev pub rights_in : Option Cell → Rights
 rights_in None = no_right
 rights_in (Some c) = c.rights
+
+-- how many pages are stored: those that are mapped with a right
+unfoldable pub right_pages : (ℕ → Bool) → (ℕ → Rights) → ℕ
+right_pages mapped rights = count_pages (paged mapped rights zeros) 0 (2 ^ 26)
+
+-- why pages don't get these rights: more would be stored than there may be, or want of memory
+abbrev pub IsFull : (ℕ → Bool) → (ℕ → Rights) → MapFault → Type 0
+IsFull mapped rights (PagesFull wanted) = most_pages < right_pages mapped rights
+IsFull mapped rights (NotMapped address) = ⊥
+IsFull mapped rights Memory = Unit {0}

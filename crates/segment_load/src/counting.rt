@@ -14,8 +14,8 @@ use crate::bare::{is_there, map_bare};
 use crate::pairs::{count_by_pairs, count_own};
 use crate::rights::last_page;
 use elf_file::{Elf, Segment};
-use guest_pages::{PAGE_SIZE, Pages};
-use std::alloc::{AllocError, Global};
+use guest_pages::{MapFault, PAGE_SIZE, Pages};
+use std::alloc::Global;
 
 /// How many pages the segments of a file store: each page of a segment that has a right, once. A number that passes 64 bits
 /// is told as 2^64 - 1. It costs by the number of segments, and by a bit for each of their pages, for which it takes memory;
@@ -36,7 +36,7 @@ pub fn laws(elf: &Elf)
 {}
 
 /// How many pages segments store, by memory in which those are mapped that were seen.
-fn count_by_seen(alloc: Global, segments: &[Segment]) -> Result<u64, AllocError>
+fn count_by_seen(alloc: Global, segments: &[Segment]) -> Result<u64, MapFault>
     requires apart { all_pairs (λ s t. not (shares_byte s t)) (map segment_image segments.now) ≡ true }
     ensures { IfOk result (λ wanted. wanted ≡ min (pages_of (map segment_image segments.now)) (2 ^ 64 - 1)) }
 {
@@ -52,7 +52,7 @@ fn count_by_seen(alloc: Global, segments: &[Segment]) -> Result<u64, AllocError>
 }
 
 /// How many pages a segment stores that none of those that were seen does. Its own are seen then.
-fn unseen_pages(alloc: Global, seen: &mut Pages, segment: &Segment) -> Result<u64, AllocError>
+fn unseen_pages(alloc: Global, seen: &mut Pages, segment: &Segment) -> Result<u64, MapFault>
     ensures { IfOk result (λ own. (later : List SegmentImage)
         → list_all (λ t. not (shares_byte (segment_image segment.now) t)) later ≡ true
         → HasSeen later seen.old

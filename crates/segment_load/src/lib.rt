@@ -8,9 +8,10 @@
 //!
 //! # What the layer above knows
 //!
-//! `load` makes that memory, and nothing else but want of memory is answered. `wanted_pages` tells how many pages the
-//! segments store: each page of a segment that has a right, once. `laws` says that the memory stores exactly these. While it
-//! is made no more are stored: a page gets no right that it doesn't have in the end, but for those that have one already.
+//! `load` makes that memory of a file whose pages fit, and answers want of memory alone. `wanted_pages` tells how many pages
+//! the segments store: each page of a segment that has a right, once. `laws` says that the memory stores exactly these. While
+//! it is made no more are stored: a page gets no right that it doesn't have in the end, but for those that have one already.
+//! So no step of it is refused for its pages (`proofs/FullFacts.antt`).
 //!
 //! # Form
 //!

@@ -1,14 +1,9 @@
 use super::*;
+use elf_build::{EXECUTE, ElfHeader, ProgramHeader, READ, WRITE, zeros};
 use elf_file::{Elf, ElfFault, read};
 use guest_pages::{PageFault, Pages, Rights, Width};
 use std::alloc::{AllocError, Global};
 use std::test::Fail;
-
-const EXECUTE: u32 = 1;
-
-const WRITE: u32 = 2;
-
-const READ: u32 = 4;
 
 const BASE: u64 = 0x20_0000_0000;
 
@@ -18,32 +13,9 @@ const CODE: u64 = 0x8_0000;
 /// Where a file's bytes stand behind its header and its four program headers.
 const REST: u64 = 64 + 4 * 56;
 
-/// What a program header says.
-#[derive(Clone, Copy)]
-struct Part {
-    kind: u32,
-    flags: u32,
-    offset: u64,
-    address: u64,
-    file_size: u64,
-    memory_size: u64,
-}
-
-/// A loaded segment without bytes from the file.
-fn zeros(flags: u32, address: u64, size: u64) -> Part {
-    Part {
-        kind: 1,
-        flags,
-        offset: 0,
-        address,
-        file_size: 0,
-        memory_size: size,
-    }
-}
-
 /// A loaded segment with bytes from the file, from a place behind the program headers on.
-fn filled(flags: u32, address: u64, size: u64, place: u64, length: u64) -> Part {
-    Part {
+fn filled(flags: u32, address: u64, size: u64, place: u64, length: u64) -> ProgramHeader {
+    ProgramHeader {
         offset: REST.wrapping_add(place),
         file_size: length,
         ..zeros(flags, address, size)
@@ -51,48 +23,44 @@ fn filled(flags: u32, address: u64, size: u64, place: u64, length: u64) -> Part 
 }
 
 /// A program header of a type that is passed over.
-fn note() -> Part {
-    Part {
+fn note() -> ProgramHeader {
+    ProgramHeader {
         kind: 4,
         ..zeros(7, 0x10000, 0x1000)
     }
 }
 
 /// A file of three program headers and a fourth one of two bytes of code, with bytes behind them.
-fn file(alloc: Global, kind: u16, parts: [Part; 3], rest: &[u8]) -> Result<Vec<u8>, AllocError> {
-    let mut bytes = Vec::new(alloc);
-    bytes.extend_from_slice(&[0x7F, b'E', b'L', b'F', 2, 1, 1, 0, 0, 0, 0, 0, 0, 0, 0, 0])?;
-    bytes.extend_from_slice(&kind.to_le_bytes())?;
-    bytes.extend_from_slice(&[243, 0, 1, 0, 0, 0])?;
-    bytes.extend_from_slice(&CODE.to_le_bytes())?;
-    bytes.extend_from_slice(&[64, 0, 0, 0, 0, 0, 0, 0])?;
-    bytes.extend_from_slice(&[0, 0, 0, 0, 0, 0, 0, 0, 0, 0, 0, 0, 64, 0, 56, 0])?;
-    bytes.extend_from_slice(&[4, 0, 64, 0, 0, 0, 0, 0])?;
-    for part in parts {
-        add_part(&mut bytes, part)?;
-    }
-    add_part(&mut bytes, zeros(READ | EXECUTE, CODE, 2))?;
-    bytes.extend_from_slice(rest)?;
-    Ok(bytes)
-}
-
-fn add_part(bytes: &mut Vec<u8>, part: Part) -> Result<(), AllocError> {
-    bytes.extend_from_slice(&part.kind.to_le_bytes())?;
-    bytes.extend_from_slice(&part.flags.to_le_bytes())?;
-    bytes.extend_from_slice(&part.offset.to_le_bytes())?;
-    bytes.extend_from_slice(&part.address.to_le_bytes())?;
-    bytes.extend_from_slice(&part.address.to_le_bytes())?;
-    bytes.extend_from_slice(&part.file_size.to_le_bytes())?;
-    bytes.extend_from_slice(&part.memory_size.to_le_bytes())?;
-    bytes.extend_from_slice(&[0, 0x10, 0, 0, 0, 0, 0, 0])
+fn file(
+    alloc: Global,
+    kind: u16,
+    parts: [ProgramHeader; 3],
+    rest: &[u8],
+) -> Result<Vec<u8>, AllocError> {
+    let [first, second, third] = parts;
+    let parts = [first, second, third, zeros(READ | EXECUTE, CODE, 2)];
+    elf_build::file(alloc, ElfHeader::new(kind, CODE, 4), &parts, rest)
 }
 
 /// What the reader makes of the file.
-fn elf_of(alloc: Global, kind: u16, parts: [Part; 3], rest: &[u8]) -> Result<Elf, ElfFault> {
+fn elf_of(
+    alloc: Global,
+    kind: u16,
+    parts: [ProgramHeader; 3],
+    rest: &[u8],
+) -> Result<Elf, ElfFault> {
     match file(alloc, kind, parts, rest) {
         Ok(bytes) => read(alloc, &bytes),
         Err(_) => Err(ElfFault::Memory),
     }
+}
+
+/// The memory of a file whose pages fit.
+fn memory_of(alloc: Global, elf: &Elf) -> Result<Pages, AllocError> {
+    if wanted_pages(elf) > 65_536 {
+        return Err(AllocError);
+    }
+    load(alloc, elf)
 }
 
 fn rights(read: bool, write: bool, execute: bool) -> Rights {
@@ -124,7 +92,7 @@ fn bytes_of_the_file_and_zeros_around_them(rt: HostRuntime) -> Result<(), Fail> 
     ];
     let rest = [1, 2, 3, 4, 5, 6, 7, 8, 9, 10, 11, 12, 13, 14];
     let elf = elf_of(rt.alloc(), 2, parts, &rest)?;
-    let pages = load(rt.alloc(), &elf)?;
+    let pages = memory_of(rt.alloc(), &elf)?;
     let table: [(u64, [u8; 8]); 11] = [
         (0x10000, [0; 8]),
         (0x10FF8, [0, 0, 0, 0, 1, 2, 3, 4]),
@@ -163,7 +131,7 @@ fn nothing_stands_where_no_segment_has_a_page(rt: HostRuntime) -> Result<(), Fai
         zeros(READ | WRITE, 0x30000, 0),
     ];
     let elf = elf_of(rt.alloc(), 2, parts, &[1; 9])?;
-    let pages = load(rt.alloc(), &elf)?;
+    let pages = memory_of(rt.alloc(), &elf)?;
     let table = [
         0,
         0x1000,
@@ -201,7 +169,7 @@ fn segments_of_one_page_keep_their_bytes(rt: HostRuntime) -> Result<(), Fail> {
     let high = filled(READ | WRITE, 0x10800, 0x800, 3, 2);
     let touching = filled(WRITE, 0x107FE, 2, 5, 2);
     let low_short = filled(READ, 0x10000, 0x7FE, 0, 3);
-    let table: [([Part; 3], [u8; 8], [u8; 8]); 4] = [
+    let table: [([ProgramHeader; 3], [u8; 8], [u8; 8]); 4] = [
         (
             [low, high, note()],
             [1, 2, 3, 0, 0, 0, 0, 0],
@@ -225,7 +193,7 @@ fn segments_of_one_page_keep_their_bytes(rt: HostRuntime) -> Result<(), Fail> {
     ];
     for (row, (parts, at_start, at_middle)) in table.iter().enumerate() {
         let elf = elf_of(rt.alloc(), 2, *parts, &[1, 2, 3, 4, 5, 6, 7])?;
-        let pages = load(rt.alloc(), &elf)?;
+        let pages = memory_of(rt.alloc(), &elf)?;
         let mut found = [255; 8];
         assert_eq!(rt; pages.copy_out(0x10000, &mut found), Ok(()), "row {row}");
         assert_eq!(rt; found, *at_start, "row {row}");
@@ -253,7 +221,7 @@ fn the_rights_of_a_page_are_those_of_its_flags(rt: HostRuntime) -> Result<(), Fa
     for (flags, given) in table {
         let parts = [zeros(flags, 0x10FFF, 2), note(), note()];
         let elf = elf_of(rt.alloc(), 2, parts, &[])?;
-        let pages = load(rt.alloc(), &elf)?;
+        let pages = memory_of(rt.alloc(), &elf)?;
         for at in [0x10000, 0x11000] {
             assert_eq!(rt; rights_of_page(&pages, at), Some(given), "{flags} {at}");
         }
@@ -284,7 +252,7 @@ fn a_page_has_the_rights_of_all_its_segments(rt: HostRuntime) -> Result<(), Fail
             zeros(third, 0x10500, 1),
         ];
         let elf = elf_of(rt.alloc(), 2, parts, &[])?;
-        let pages = load(rt.alloc(), &elf)?;
+        let pages = memory_of(rt.alloc(), &elf)?;
         assert_eq!(rt;
             rights_of_page(&pages, 0x10000),
             Some(given),
@@ -323,7 +291,7 @@ fn a_segment_shares_its_first_and_its_last_page(rt: HostRuntime) -> Result<(), F
     ];
     for (row, parts) in orders.iter().enumerate() {
         let elf = elf_of(rt.alloc(), 2, *parts, rest.as_slice())?;
-        let pages = load(rt.alloc(), &elf)?;
+        let pages = memory_of(rt.alloc(), &elf)?;
         let given = [
             (0x0F000, None),
             (0x10000, Some(rights(true, true, false))),
@@ -355,7 +323,7 @@ fn a_segment_shares_its_first_and_its_last_page(rt: HostRuntime) -> Result<(), F
 
 #[test]
 fn each_page_that_is_stored_is_wanted_once(rt: HostRuntime) -> Result<(), Fail> {
-    let table: [([Part; 3], u64); 19] = [
+    let table: [([ProgramHeader; 3], u64); 19] = [
         // no byte
         ([note(), note(), note()], 0),
         ([zeros(READ, 0x10000, 0), note(), note()], 0),
@@ -471,7 +439,7 @@ fn a_page_without_rights_is_mapped(rt: HostRuntime) -> Result<(), Fail> {
         note(),
     ];
     let elf = elf_of(rt.alloc(), 2, parts, &[1, 2, 3, 4, 5, 6])?;
-    let pages = load(rt.alloc(), &elf)?;
+    let pages = memory_of(rt.alloc(), &elf)?;
     assert_eq!(rt; pages.allows(0x10000, 0x3000, none), Ok(()));
     assert_eq!(rt; rights_of_page(&pages, 0x10000), Some(none));
     assert_eq!(rt; rights_of_page(&pages, 0x11000), Some(none));
@@ -498,7 +466,7 @@ fn pages_without_rights_take_no_room(rt: HostRuntime) -> Result<(), Fail> {
     let none = rights(false, false, false);
     for parts in [[shared, bare, note()], [bare, note(), shared]] {
         let elf = elf_of(rt.alloc(), 2, parts, &[1, 2, 3, 4, 5, 6])?;
-        let pages = load(rt.alloc(), &elf)?;
+        let pages = memory_of(rt.alloc(), &elf)?;
         assert_eq!(rt; pages.load(0x1000_0800, Width::Four), Ok(0x0605_0403));
         let given = [
             (0x1000_0000, Some(rights(true, false, false))),
@@ -525,7 +493,7 @@ fn a_file_reserves_all_its_addresses_without_rights(rt: HostRuntime) -> Result<(
         note(),
     ];
     let elf = elf_of(rt.alloc(), 2, parts, &[1, 2, 3, 4, 5, 6])?;
-    let pages = load(rt.alloc(), &elf)?;
+    let pages = memory_of(rt.alloc(), &elf)?;
     let none = rights(false, false, false);
     let given = [
         (0xF_F000, Some(rights(true, false, false))),
@@ -551,7 +519,7 @@ fn a_file_of_type_3_is_loaded_above_its_base(rt: HostRuntime) -> Result<(), Fail
         note(),
     ];
     let elf = elf_of(rt.alloc(), 3, parts, &[1, 2, 3, 4])?;
-    let pages = load(rt.alloc(), &elf)?;
+    let pages = memory_of(rt.alloc(), &elf)?;
     let table = [
         (0, None),
         (0x80000, None),

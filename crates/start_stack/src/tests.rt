@@ -1,6 +1,7 @@
 ghost use Rattle.std.specs.Prelude.{◌≡◌, ◌≤◌, length, vec_len, IfOk};
 
 use super::*;
+use elf_build::{ElfHeader, ProgramHeader, file, zeros};
 use elf_file::{Elf, read};
 use file_tree::Text;
 use guest_pages::{PageFault, Pages, Rights, Width};
@@ -38,41 +39,19 @@ const ALL: Rights = Rights {
 
 /// A file of one segment at 0x10000, whose two program headers stand at 0x10040. It begins at 0x10078.
 fn sample(alloc: Global) -> Result<Elf, Fail> {
-    let mut bytes = vec![in alloc; 0; 176]?;
-    let fields: [(usize, u8); 22] = [
-        (0, 0x7F),
-        (1, b'E'),
-        (2, b'L'),
-        (3, b'F'),
-        // 64 bits, little-endian, version 1
-        (4, 2),
-        (5, 1),
-        (6, 1),
-        // type 2, machine 243, the entry
-        (16, 2),
-        (18, 243),
-        (24, 0x78),
-        (26, 1),
-        // two program headers of 56 bytes at 64
-        (32, 64),
-        (54, 56),
-        (56, 2),
-        // the first is loaded from the file's first byte on, readable and executable, of 4,096 bytes in memory
-        (64, 1),
-        (68, 5),
-        (82, 1),
-        (96, 176),
-        (105, 0x10),
-        // the second is of another type
-        (120, 0x51),
-        (122, 0x74),
-        (123, 0x64),
+    let parts = [
+        // loaded from the file's first byte on, readable and executable
+        ProgramHeader {
+            file_size: 176,
+            ..zeros(5, 0x10000, 4096)
+        },
+        // of another type
+        ProgramHeader {
+            kind: 0x6474_E551,
+            ..zeros(0, 0, 0)
+        },
     ];
-    for (place, value) in fields {
-        if place < bytes.len() {
-            bytes[place] = value;
-        }
-    }
+    let bytes = file(alloc, ElfHeader::new(2, 0x10078, 2), &parts, &[])?;
     Ok(read(alloc, &bytes)?)
 }
 

@@ -2,14 +2,15 @@
 
 ghost use Rattle.std.specs.Prelude.{◌≡◌, ◌+◌, ◌%◌, ◌≤◌, length, true, false, None, OnOk, OnErr};
 ghost use Rattle.byteorder.specs.Endian.{little_bytes};
-ghost use Rattle.guest_pages.specs.Faults.{first_fault, answer_or, writable};
+ghost use Rattle.guest_pages.specs.Cells.{has_none};
+ghost use Rattle.guest_pages.specs.Faults.{first_fault, answer_or, KeepsRights, writable};
 ghost use Rattle.guest_pages.specs.Operations.{written};
 ghost use Rattle.guest_pages.specs.Sizes.{size_of};
 
 use super::Pages;
 use crate::fault::PageFault;
 use crate::looking::{allows, rows};
-use crate::rights::WRITABLE;
+use crate::rights::{Rights, WRITABLE};
 use crate::width::Width;
 use crate::writing::{copy_into, write_near};
 
@@ -22,14 +23,28 @@ impl Pages {
         ensures answer { result ≡ answer_or (first_fault writable self.old at (length bytes.now)) tt }
         ensures ok { OnOk result (self.new ≡ written at bytes.now self.old) }
         ensures err { OnErr result (self.new ≡ self.old) }
+        ensures rights { KeepsRights self.old self.new }
     {
         match allows(rows(&self.tables), at, bytes.len() as u64, WRITABLE) {
             Err(fault) => Err(fault),
             Ok(()) => {
-                copy_into(&mut self.tables, at, bytes);
+                copy_into(&mut self.tables, at, bytes, WRITABLE);
                 Ok(())
             }
         }
+    }
+
+    /// Bytes go into memory from the byte address `at` on, where each address has these rights, of which there is one at least;
+    /// whether it can be written isn't asked. So a file's bytes come into pages that are made for them. It costs by the bytes, and takes
+    /// no memory.
+    ///
+    /// References: mmap(2).
+    pub fn fill(&mut self, at: u64, bytes: &[u8], rights: Rights)
+        requires some { has_none rights ≡ false }
+        requires allowed { first_fault rights self.old at (length bytes.now) ≡ None }
+        ensures { self.new ≡ written at bytes.now self.old }
+    {
+        copy_into(&mut self.tables, at, bytes, rights);
     }
 
     /// The lowest 1, 2, 4 or 8 bytes of a number, the lowest first, go into memory from the byte address `at` on, if each
@@ -58,7 +73,7 @@ impl Pages {
         ensures near { at % 4096 + size_of width ≤ 4096 → first_fault writable self.old at (size_of width) ≡ None → result ≡ true }
     {
         let bytes = value.to_le_bytes();
-        write_near(&mut self.tables, at, &bytes[..width.size()])
+        write_near(&mut self.tables, at, &bytes[..width.size()], WRITABLE)
     }
 
     /// The same for bytes that lie in two pages, or that can't be written.

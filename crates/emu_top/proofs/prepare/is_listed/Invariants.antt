@@ -1,5 +1,5 @@
 use Rattle.std.proofs.Common.{drop}
-use Rattle.emu_top.specs.Files.{NamesFile}
+use Rattle.image_store.specs.Files.{NamesFile}
 use Rattle.emu_top.proofs.prepare.is_listed.Given as goal
 
 abbrev pub invariant-loop-listed : goal.invariant-loop-listed

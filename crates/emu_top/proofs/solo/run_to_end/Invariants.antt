@@ -1,3 +1,4 @@
+use Rattle.file_table.specs.State.{outputs_of}
 use Rattle.std.proofs.Common.{◌≡◌, ◌≤◌, Some, map, length}
 use Rattle.guest_core.specs.Event.{run}
 use Rattle.emu_top.specs.Running.{KeepsSent, OneLives}
@@ -13,7 +14,7 @@ invariant-loop g l = record {
   budget : l.run.journal.budget ≡ l.initial.run.journal.budget;
   sent : KeepsSent g.D.Device.held l.initial.run l.run;
   devices : length l.run.devices.items ≡ length l.initial.run.devices.items;
-  outputs : length l.run.core.shared.files.outputs ≡ length l.initial.run.core.shared.files.outputs;
+  outputs : length (outputs_of l.run.core.shared.files) ≡ length (outputs_of l.initial.run.core.shared.files);
   unread : AreUnread g.D.Device.left g.D.Device.failed_reads l.initial.run.devices.items l.run.devices.items;
   still : map g.D.Device.failed_writes l.run.devices.items ≡ map g.D.Device.failed_writes l.initial.run.devices.items;
   none_fell : NoneFell (map g.D.Device.failed_writes l.initial.run.devices.items) (map g.D.Device.failed_writes l.run.devices.items);

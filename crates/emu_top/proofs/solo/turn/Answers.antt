@@ -1,11 +1,12 @@
+use Rattle.file_table.specs.State.{outputs_of}
 use Rattle.std.proofs.Common.{◌≡◌, ◌<◌, [], length, map, slice_index, slice_index_or, subst, arith}
 use Rattle.emu_top.proofs.TurnFacts.{Sending, grows_length, longer_goes_on, none_longer, sent_all, sent_part}
 use Rattle.emu_top.proofs.solo.turn.Goals as goal
 
 pub returns-in-Ok-send-clause-sent : goal.returns-in-Ok-send-clause-sent
 returns-in-Ok-send-clause-sent g c =
-    let old = c.args.run.now.core.shared.files.outputs in
-    let new = c.advance.new.core.shared.files.outputs in
+    let old = (outputs_of c.args.run.now.core.shared.files) in
+    let new = (outputs_of c.advance.new.core.shared.files) in
     let device = c.in-Some.device in
     let within : device < length old = omega (arith, c.in-Some.ensures.within, grows_length c.in-Ok.ensures.outputs) in
     let before : slice_index c.lengths-before.result device ≡ length (slice_index_or old device []) = c.lengths-before.ensures device within in
@@ -20,8 +21,8 @@ returns-in-Ok-send-clause-sent g c =
 
 pub returns-in-Err-send-clause-halted : goal.returns-in-Err-send-clause-halted
 returns-in-Err-send-clause-halted g c =
-    let old = c.args.run.now.core.shared.files.outputs in
-    let new = c.advance.new.core.shared.files.outputs in
+    let old = (outputs_of c.args.run.now.core.shared.files) in
+    let new = (outputs_of c.advance.new.core.shared.files) in
     let device = c.in-Some.device in
     let within : device < length old = omega (arith, c.in-Some.ensures.within, grows_length c.in-Ok.ensures.outputs) in
     let before : slice_index c.lengths-before.result device ≡ length (slice_index_or old device []) = c.lengths-before.ensures device within in

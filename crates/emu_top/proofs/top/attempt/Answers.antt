@@ -1,6 +1,6 @@
 use Rattle.std.proofs.Common.{length, ap, map}
 use Rattle.std.specs.String.{string_bytes}
-use Rattle.emu_top.proofs.LaunchFacts.{given, launch_finishes, launch_stops}
+use Rattle.emu_top.proofs.LaunchFacts.{fails_start, given, launch_finishes, launch_stops}
 use Rattle.emu_top.proofs.LawFacts.{finish_lawful, launch_few, stop_lawful}
 use Rattle.emu_top.proofs.ScheduleFacts.{start_one}
 use Rattle.emu_top.proofs.TopFacts.{start_size, start_quiet}

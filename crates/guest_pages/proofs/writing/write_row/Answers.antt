@@ -1,6 +1,5 @@
 use Rattle.std.proofs.Common.{◌/◌, ◌%◌, ◌<◌, length, is_some, refl, sym, ap, ◌∙◌, arith}
 use Rattle.guest_pages.specs.declared.page.Page.{Page}
-use Rattle.guest_pages.specs.Faults.{writable}
 use Rattle.guest_pages.specs.Tables.{cell_in, held_in}
 use Rattle.guest_pages.specs.Writes.{with_bytes}
 use Rattle.guest_pages.proofs.TableFacts.{page_past}
@@ -9,16 +8,16 @@ use Rattle.guest_pages.proofs.writing.write_row.Goals as goal
 
 pub returns-then-outer-len-clause-answer : goal.returns-then-outer-len-clause-answer
 returns-then-outer-len-clause-answer c =
-    none_held writable _ (page_past c.args.tables.now.items (c.args.at / 4096) (omega arith))
+    none_held c.args.needed _ (page_past c.args.tables.now.items (c.args.at / 4096) (omega arith))
 
 pub returns-then-inner-len-clause-answer : goal.returns-then-inner-len-clause-answer
 returns-then-inner-len-clause-answer c =
-    bare_held writable _ _ (page_past_inner c.args.tables.now.items (c.args.at / 4096) c.index_mut-table.result.now (omega arith) c.index_mut-table.ensures.value (omega arith))
+    bare_held c.args.needed _ _ (page_past_inner c.args.tables.now.items (c.args.at / 4096) c.index_mut-table.result.now (omega arith) c.index_mut-table.ensures.value (omega arith))
 
 pub returns-clause-answer : goal.returns-clause-answer
 returns-clause-answer c =
     let here = page_here c.args.tables.now.items (c.args.at / 4096) c.index_mut-table.result.now c.index_mut.result.now (omega arith) c.index_mut-table.ensures.value (omega arith) c.index_mut.ensures.value in
-    c.write_in.ensures.answer ∙ ap (λ (p : Page). is_some (held_in writable p)) (sym here)
+    c.write_in.ensures.answer ∙ ap (λ (p : Page). is_some (held_in c.args.needed p)) (sym here)
 
 pub returns-clause-done : goal.returns-clause-done
 returns-clause-done c = λ yes.

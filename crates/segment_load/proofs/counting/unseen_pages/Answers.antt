@@ -14,4 +14,4 @@ pub returns : goal.returns
 returns c = λ later apart has.
     counts_own (segment_image c.args.segment.now) later c.count_own-own.result (c.args.segment.now.at / 4096) c.last_page-last.result c.is_there.result c.is_there-2.result c.args.seen.now c.map_bare.new.memory
     (λ none. c.if-segment-eq0.false none) (λ none. c.if-segment-eq0-2.false none) refl c.last_page-last.ensures c.is_there.ensures c.is_there-2.ensures
-    c.count_own-own.ensures.one c.count_own-own.ensures.more c.in_ok-map_bare.ensures apart has
+    c.count_own-own.ensures.one c.count_own-own.ensures.more c.in_ok-map_bare.ensures.made apart has

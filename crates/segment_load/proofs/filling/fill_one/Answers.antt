@@ -20,10 +20,14 @@ pages-preserved c =
       few = omega arith;
       filled = λ m r b has.
           has_piece at done size bytes m r b c.fill_page.new.memory (omega arith)
-          (rw one at (c.in_ok-fill_page.ensures m r (over at (take done bytes) b) (c.pages.invariant.filled m r b has)));
+          (rw one at (c.in-Ok.ensures.made m r (over at (take done bytes) b) (c.pages.invariant.filled m r b has)));
     }
 
-pub returns : goal.returns
-returns c = λ m r b has.
+pub returns-clause-made : goal.returns-clause-made
+returns-clause-made c = λ m r b has.
     subst (λ (bytes : List ℕ). HasPages m r (over c.args.segment.now.at bytes b) c.pages.memory) c.as_slice-bytes.ensures
     (has_all c.args.segment.now.at c.pages.done c.as_slice-bytes.result.now m r b c.pages.memory (omega arith) (c.pages.invariant.filled m r b has))
+
+pub returns-in-Err-clause-refused : goal.returns-in-Err-clause-refused
+returns-in-Err-clause-refused c = λ m r b has.
+    c.in-Err.ensures.refused m r (over c.args.segment.now.at (take c.pages.done c.as_slice-bytes.result.now) b) (c.pages.invariant.filled m r b has)

@@ -22,7 +22,7 @@ segments-preserved c =
     let next = image_before c.args.segments.now c.segments.left c.index-segments-left.result (omega arith) c.segments.invariant.few c.index-segments-left.is in
     record {
       few = omega (arith, c.segments.invariant.few);
-      mapped = rw next (c.in-Ok.ensures (is_touched (drop c.segments.left all)) c.segments.invariant.mapped);
+      mapped = rw next (c.in-Ok.ensures.made (is_touched (drop c.segments.left all)) c.segments.invariant.mapped);
     }
 
 pub returns : goal.returns
@@ -30,3 +30,8 @@ returns c =
     let all = map segment_image c.args.segments.now in
     let none : c.segments.left ≡ 0 = omega arith in
     subst (λ (n : ℕ). HasPages (is_touched (drop n all)) no_rights zeros c.segments.memory) none c.segments.invariant.mapped
+
+pub want_of-requires : goal.want_of-requires
+want_of-requires c =
+    let all = map segment_image c.args.segments.now in
+    c.in-Err.ensures.refused (is_touched (drop c.segments.left all)) c.segments.invariant.mapped

@@ -1,0 +1,352 @@
+//! Calls that move bytes of files, and offsets.
+
+ghost use Rattle.std.specs.Prelude.{◌≡◌, ◌≤◌, false, min, pos, None, length, IfOk, IfErr, OnErr};
+ghost use Rattle.file_table.specs.Entries.{list};
+ghost use Rattle.file_table.specs.Moving.{read as read_table};
+ghost use Rattle.host_calls.specs.Answers.{refuses};
+ghost use Rattle.host_calls.specs.Files.{errno_of as errno_by};
+ghost use Rattle.host_calls.specs.Host.{gives, shared_of};
+ghost use Rattle.host_calls.specs.Moving.{ftruncate, getdents64, is_negative, is_readable, is_writable, lseek, pread64, pwrite64, read, read_into, readv, taken, told_entries, write, write_from, writev};
+ghost use Rattle.guest_pages.specs.Faults.{first_fault, writable};
+ghost use Rattle.host_calls.specs.Pieces.{any_bad, most_bytes, total};
+
+use crate::host::Host;
+use crate::pieces::{MOST_BYTES, Piece, gather, is_any_bad, put_piece, scatter, vector_of};
+use file_table::FileFault;
+use file_tree::Errno;
+use guest_pages::{READABLE, WRITABLE};
+use std::alloc::AllocError;
+
+/// The most pieces of a vector.
+const MOST_PIECES: u64 = 1024;
+
+/// One more than the largest offset.
+const OFFSET_END: u64 = 0x8000_0000_0000_0000;
+
+/// The error of a call that can't be made. Where it would wait that is `ENOSYS`, until calls that wait are there.
+fn errno_of(fault: FileFault) -> Errno
+    ensures { result ≡ errno_by fault }
+{
+    match fault {
+        FileFault::Errno(errno) => errno,
+        FileFault::Block => Errno::ENOSYS,
+        FileFault::Memory => Errno::ENOMEM,
+    }
+}
+
+/// The one piece of a call, cut to what a call moves.
+fn one_piece(at: u64, wish: u64) -> Piece
+    ensures { result ≡ record { at = at; size = min wish most_bytes } }
+{
+    Piece {
+        at,
+        size: wish.min(MOST_BYTES),
+    }
+}
+
+impl Host {
+    /// Whether a descriptor is open for reading.
+    fn is_readable(&self, fd: u64) -> bool
+        ensures { result ≡ is_readable fd self.now.files }
+    {
+        match self.files.what(fd) {
+            Some(opened) => opened.flags % 4 == 0 || opened.flags % 4 == 2,
+            None => false,
+        }
+    }
+
+    /// Whether a descriptor is open for writing.
+    fn is_writable(&self, fd: u64) -> bool
+        ensures { result ≡ is_writable fd self.now.files }
+    {
+        match self.files.what(fd) {
+            Some(opened) => opened.flags % 4 == 1 || opened.flags % 4 == 2,
+            None => false,
+        }
+    }
+
+    /// Reads bytes of a file into memory, in time that their number bounds. They are copied once, and no memory is taken.
+    ///
+    /// References: read(2).
+    #[tactic(auto, unfolding(crate::specs::Moving::read))]
+    pub(crate) fn read(&mut self, thread: u32, fd: u64, at: u64, wish: u64) -> i64
+        ensures answer { gives result self.new ≡ read thread fd at wish (shared_of self.old) }
+        ensures pending { self.new.pending ≡ self.old.pending }
+    {
+        let piece = one_piece(at, wish);
+        self.read_into(thread, fd, &[piece], piece.size)
+    }
+
+    /// Reads bytes of a file into pieces of memory. It takes memory for what stands of the pieces alone.
+    ///
+    /// References: readv(2).
+    #[tactic(auto, unfolding(crate::specs::Moving::readv))]
+    pub(crate) fn readv(
+        &mut self,
+        thread: u32,
+        fd: u64,
+        at: u64,
+        count: u64,
+    ) -> Result<i64, AllocError>
+        ensures answer { IfOk result (λ answer. gives answer self.new ≡ readv thread fd at count (shared_of self.old)) }
+        ensures pending { self.new.pending ≡ self.old.pending }
+        ensures err { OnErr result (self.new ≡ self.old) }
+    {
+        if count > MOST_PIECES {
+            return Ok(-Errno::EINVAL.code());
+        }
+        if !self.is_readable(fd) {
+            return Ok(-Errno::EBADF.code());
+        }
+        match vector_of(self.files.alloc(), &self.pages, at, count)? {
+            Some(vector) => Ok(self.read_into(thread, fd, vector.pieces.as_slice(), vector.total)),
+            None => Ok(-Errno::EFAULT.code()),
+        }
+    }
+
+    #[tactic(auto, unfolding(crate::specs::Moving::read_into))]
+    fn read_into(&mut self, thread: u32, fd: u64, pieces: &[Piece], size: u64) -> i64
+        requires total { size ≡ total pieces.now }
+        requires few { size ≤ most_bytes }
+        ensures answer { gives result self.new ≡ read_into thread fd pieces.now (shared_of self.old) }
+        ensures pending { self.new.pending ≡ self.old.pending }
+    {
+        if !self.is_readable(fd) {
+            return -Errno::EBADF.code();
+        }
+        if is_any_bad(&self.pages, pieces, WRITABLE) {
+            return -Errno::EFAULT.code();
+        }
+        match self.move_in(thread, fd, pieces, size) {
+            Ok(count) => count as i64,
+            Err(errno) => -errno.code(),
+        }
+    }
+
+    /// Reads into pieces that can be written, and tells how many bytes.
+    #[tactic(auto, using(file_table::proofs::PeekFacts::read_is))]
+    fn move_in(&mut self, thread: u32, fd: u64, pieces: &[Piece], size: u64) -> Result<u64, Errno>
+        requires few { size ≤ most_bytes }
+        requires good { any_bad writable self.old.pages pieces.now ≡ false }
+        ensures ok { IfOk result (λ count. gives (pos count) self.new ≡ taken thread pieces.now (read_table fd size self.old.files) (shared_of self.old)) }
+        ensures few { IfOk result (λ count. count ≤ most_bytes) }
+        ensures err { IfErr result (λ errno. refuses errno (shared_of self.old) ≡ taken thread pieces.now (read_table fd size self.old.files) (shared_of self.old)) }
+        ensures stays { OnErr result (self.new ≡ self.old) }
+        ensures pending { self.new.pending ≡ self.old.pending }
+    {
+        let count = match self.files.peek(fd, size) {
+            Ok(bytes) => {
+                scatter(&mut self.pages, &mut self.held, thread, pieces, bytes);
+                bytes.len() as u64
+            }
+            Err(fault) => return Err(errno_of(fault)),
+        };
+        self.files.advance(fd, count);
+        Ok(count)
+    }
+
+    /// Reads bytes of a file from an offset on.
+    ///
+    /// References: pread(2).
+    #[tactic(auto, unfolding(crate::specs::Moving::pread64))]
+    pub(crate) fn pread64(&mut self, thread: u32, fd: u64, at: u64, wish: u64, offset: u64) -> i64
+        ensures answer { gives result self.new ≡ pread64 thread fd at wish offset (shared_of self.old) }
+        ensures pending { self.new.pending ≡ self.old.pending }
+    {
+        if offset >= OFFSET_END {
+            return -Errno::EINVAL.code();
+        }
+        if !self.is_readable(fd) {
+            return -Errno::EBADF.code();
+        }
+        let pieces = [one_piece(at, wish)];
+        if is_any_bad(&self.pages, &pieces, WRITABLE) {
+            return -Errno::EFAULT.code();
+        }
+        match self.files.peek_at(fd, offset, pieces[0].size) {
+            Ok(bytes) => {
+                scatter(&mut self.pages, &mut self.held, thread, &pieces, bytes);
+                bytes.len() as i64
+            }
+            Err(errno) => -errno.code(),
+        }
+    }
+
+    /// Writes bytes of memory to a file or a device, in time that their number bounds, over many calls.
+    ///
+    /// References: write(2).
+    #[tactic(auto, unfolding(crate::specs::Moving::write))]
+    pub(crate) fn write(&mut self, fd: u64, at: u64, wish: u64) -> Result<i64, AllocError>
+        ensures answer { IfOk result (λ answer. gives answer self.new ≡ write fd at wish (shared_of self.old)) }
+        ensures pending { self.new.pending ≡ self.old.pending }
+        ensures err { OnErr result (self.new ≡ self.old) }
+    {
+        let piece = one_piece(at, wish);
+        self.write_from(fd, &[piece])
+    }
+
+    /// Writes what stands in pieces of memory, in one go.
+    ///
+    /// References: writev(2).
+    #[tactic(auto, unfolding(crate::specs::Moving::writev))]
+    pub(crate) fn writev(&mut self, fd: u64, at: u64, count: u64) -> Result<i64, AllocError>
+        ensures answer { IfOk result (λ answer. gives answer self.new ≡ writev fd at count (shared_of self.old)) }
+        ensures pending { self.new.pending ≡ self.old.pending }
+        ensures err { OnErr result (self.new ≡ self.old) }
+    {
+        if count > MOST_PIECES {
+            return Ok(-Errno::EINVAL.code());
+        }
+        if !self.is_writable(fd) {
+            return Ok(-Errno::EBADF.code());
+        }
+        match vector_of(self.files.alloc(), &self.pages, at, count)? {
+            Some(vector) => self.write_from(fd, vector.pieces.as_slice()),
+            None => Ok(-Errno::EFAULT.code()),
+        }
+    }
+
+    #[tactic(auto, unfolding(crate::specs::Moving::write_from))]
+    fn write_from(&mut self, fd: u64, pieces: &[Piece]) -> Result<i64, AllocError>
+        requires { total pieces.now ≤ most_bytes }
+        ensures answer { IfOk result (λ answer. gives answer self.new ≡ write_from fd pieces.now (shared_of self.old)) }
+        ensures pending { self.new.pending ≡ self.old.pending }
+        ensures err { OnErr result (self.new ≡ self.old) }
+    {
+        if !self.is_writable(fd) {
+            return Ok(-Errno::EBADF.code());
+        }
+        if is_any_bad(&self.pages, pieces, READABLE) {
+            return Ok(-Errno::EFAULT.code());
+        }
+        let bytes = gather(self.files.alloc(), &self.pages, pieces)?;
+        match self.files.write(fd, bytes.as_slice()) {
+            Ok(count) => Ok(count as i64),
+            Err(FileFault::Errno(errno)) => Ok(-errno.code()),
+            Err(FileFault::Block) => unreachable!(),
+            Err(FileFault::Memory) => Err(AllocError),
+        }
+    }
+
+    /// Writes bytes of memory to a file from an offset on.
+    ///
+    /// References: pwrite(2).
+    #[tactic(auto, unfolding(crate::specs::Moving::pwrite64))]
+    pub(crate) fn pwrite64(
+        &mut self,
+        fd: u64,
+        at: u64,
+        wish: u64,
+        offset: u64,
+    ) -> Result<i64, AllocError>
+        ensures answer { IfOk result (λ answer. gives answer self.new ≡ pwrite64 fd at wish offset (shared_of self.old)) }
+        ensures pending { self.new.pending ≡ self.old.pending }
+        ensures err { OnErr result (self.new ≡ self.old) }
+    {
+        if offset >= OFFSET_END {
+            return Ok(-Errno::EINVAL.code());
+        }
+        if !self.is_writable(fd) {
+            return Ok(-Errno::EBADF.code());
+        }
+        let pieces = [one_piece(at, wish)];
+        if is_any_bad(&self.pages, &pieces, READABLE) {
+            return Ok(-Errno::EFAULT.code());
+        }
+        let bytes = gather(self.files.alloc(), &self.pages, &pieces)?;
+        match self.files.write_at(fd, offset, bytes.as_slice()) {
+            Ok(count) => Ok(count as i64),
+            Err(FileFault::Errno(errno)) => Ok(-errno.code()),
+            Err(FileFault::Block) => unreachable!(),
+            Err(FileFault::Memory) => Err(AllocError),
+        }
+    }
+
+    /// Moves a description's offset, and tells it.
+    ///
+    /// References: lseek(2).
+    #[tactic(auto, unfolding(crate::specs::Moving::lseek))]
+    pub(crate) fn lseek(&mut self, fd: u64, offset: u64, whence: u64) -> i64
+        ensures answer { gives result self.new ≡ lseek fd offset whence (shared_of self.old) }
+        ensures pending { self.new.pending ≡ self.old.pending }
+    {
+        match self.files.seek(fd, offset.cast_signed(), whence) {
+            Ok(to) => to as i64,
+            Err(errno) => -errno.code(),
+        }
+    }
+
+    /// Cuts a file to a size, or fills it up with zeros.
+    ///
+    /// References: ftruncate(2).
+    #[tactic(auto, unfolding(crate::specs::Moving::ftruncate))]
+    pub(crate) fn ftruncate(&mut self, fd: u64, size: u64) -> Result<i64, AllocError>
+        ensures answer { IfOk result (λ answer. gives answer self.new ≡ ftruncate fd size (shared_of self.old)) }
+        ensures pending { self.new.pending ≡ self.old.pending }
+        ensures err { OnErr result (self.new ≡ self.old) }
+    {
+        if size >= OFFSET_END {
+            return Ok(-Errno::EINVAL.code());
+        }
+        match self.files.truncate(fd, size) {
+            Ok(()) => Ok(0),
+            Err(FileFault::Errno(errno)) => Ok(-errno.code()),
+            Err(FileFault::Block) => unreachable!(),
+            Err(FileFault::Memory) => Err(AllocError),
+        }
+    }
+
+    /// Tells entries of a directory, as many as fit. It takes memory for as many bytes as are asked for.
+    ///
+    /// References: getdents64(2).
+    #[tactic(auto, unfolding(crate::specs::Moving::getdents64))]
+    pub(crate) fn getdents64(
+        &mut self,
+        thread: u32,
+        fd: u64,
+        at: u64,
+        wish: u64,
+    ) -> Result<i64, AllocError>
+        ensures answer { IfOk result (λ answer. gives answer self.new ≡ getdents64 thread fd at wish (shared_of self.old)) }
+        ensures pending { self.new.pending ≡ self.old.pending }
+        ensures err { OnErr result (self.new ≡ self.old) }
+    {
+        let room = wish.min(MOST_BYTES);
+        if self.files.what(fd).is_none() {
+            return Ok(-Errno::EBADF.code());
+        }
+        match self.pages.allows(at, room, WRITABLE) {
+            Ok(()) => self.list_into(thread, fd, at, room),
+            Err(_) => Ok(-Errno::EFAULT.code()),
+        }
+    }
+
+    /// Tells entries where there is room for so many bytes.
+    fn list_into(&mut self, thread: u32, fd: u64, at: u64, room: u64) -> Result<i64, AllocError>
+        requires good { first_fault writable self.old.pages at room ≡ None }
+        requires few { room ≤ most_bytes }
+        ensures answer { IfOk result (λ answer. gives answer self.new ≡ told_entries thread at (list fd room self.old.files) (shared_of self.old)) }
+        ensures pending { self.new.pending ≡ self.old.pending }
+        ensures err { OnErr result (self.new ≡ self.old) }
+    {
+        let alloc = self.files.alloc();
+        let mut bytes = Vec::new(alloc);
+        bytes.resize(room as usize, 0)?;
+        match self.files.list(alloc, fd, bytes.as_mut_slice()) {
+            Ok(count) => {
+                let piece = Piece { at, size: room };
+                put_piece(
+                    &mut self.pages,
+                    &mut self.held,
+                    thread,
+                    piece,
+                    &bytes[..count],
+                );
+                Ok(count as i64)
+            }
+            Err(FileFault::Errno(errno)) => Ok(-errno.code()),
+            Err(FileFault::Block) => unreachable!(),
+            Err(FileFault::Memory) => Err(AllocError),
+        }
+    }
+}

@@ -1,0 +1,367 @@
+use super::*;
+use file_tree::Text;
+use le_fields::Bytes;
+use std::alloc::{AllocError, Global};
+use std::test::Fail;
+
+/// An entry of a table: its path, its kind and its bytes.
+type Row<'a> = (&'a str, Kind, &'a str);
+
+fn entries_of(alloc: Global, rows: &[Row<'_>]) -> Result<Vec<Entry>, AllocError> {
+    let mut entries = Vec::new(alloc);
+    for (path, kind, bytes) in rows {
+        entries.push(Entry {
+            path: Text::new(alloc, path)?,
+            kind: *kind,
+            bytes: Bytes::from_vec(bytes.as_bytes().to_vec(alloc)?),
+        })?;
+    }
+    Ok(entries)
+}
+
+/// Whether the entries are taken.
+fn is_taken(alloc: Global, entries: Vec<Entry>) -> bool {
+    match Entries::new(alloc, entries) {
+        Ok(_) => true,
+        Err(_) => false,
+    }
+}
+
+/// Directories in one another, `depth` of them, whose names are all the same.
+fn nested(alloc: Global, name: &str, depth: u32) -> Result<Vec<Entry>, AllocError> {
+    let mut entries = Vec::new(alloc);
+    let mut path = String::from_str(alloc, name)?;
+    for _ in 0..depth {
+        entries.push(Entry {
+            path: Text::new(alloc, path.as_str())?,
+            kind: Kind::Dir,
+            bytes: Bytes::new(alloc),
+        })?;
+        path.push('/')?;
+        path.push_str(name)?;
+    }
+    Ok(entries)
+}
+
+fn name_of(alloc: Global, length: u32) -> Result<String, AllocError> {
+    let mut name = String::new(alloc);
+    for _ in 0..length {
+        name.push('n')?;
+    }
+    Ok(name)
+}
+
+#[test]
+fn entries_that_are_a_listing_and_such_that_are_none(rt: HostRuntime) -> Result<(), Fail> {
+    let table: [(&[Row<'_>], bool); 19] = [
+        (&[], true),
+        (&[("d", Kind::Dir, ""), ("d/f", Kind::File, "x")], true),
+        // `!` is below the slash
+        (
+            &[
+                ("d", Kind::Dir, ""),
+                ("d!", Kind::Other, ""),
+                ("d/f", Kind::File, ""),
+            ],
+            true,
+        ),
+        (&[("...", Kind::File, ""), (".d", Kind::Dir, "")], true),
+        (&[("b", Kind::File, ""), ("a", Kind::File, "")], false),
+        (&[("a", Kind::File, ""), ("a", Kind::Dir, "")], false),
+        (&[("d/f", Kind::File, "")], false),
+        (&[("d", Kind::File, ""), ("d/f", Kind::File, "")], false),
+        (&[("d", Kind::Other, ""), ("d/f", Kind::File, "")], false),
+        (&[("d", Kind::Dir, ""), ("d/e/f", Kind::File, "")], false),
+        (&[("", Kind::Dir, "")], false),
+        (&[("/a", Kind::File, "")], false),
+        (&[("a", Kind::Dir, ""), ("a/", Kind::Dir, "")], false),
+        (&[("a", Kind::Dir, ""), ("a//b", Kind::File, "")], false),
+        (&[(".", Kind::Dir, "")], false),
+        (&[("..", Kind::Dir, "")], false),
+        (&[("a", Kind::Dir, ""), ("a/.", Kind::Dir, "")], false),
+        (&[("a", Kind::Dir, ""), ("a/..", Kind::Dir, "")], false),
+        (&[("a\0b", Kind::File, "")], false),
+    ];
+    let alloc = rt.alloc();
+    for (rows, taken) in &table {
+        let entries = entries_of(alloc, rows)?;
+        assert_eq!(rt; is_taken(alloc, entries), *taken);
+    }
+    Ok(())
+}
+
+#[test]
+fn the_longest_names_and_paths(rt: HostRuntime) -> Result<(), Fail> {
+    let alloc = rt.alloc();
+    // 16 names of 255 bytes with a slash between each two are 4,095 bytes
+    for (length, depth, taken) in [
+        (255, 16, true),
+        (255, 17, false),
+        (256, 1, false),
+        (1, 2048, true),
+        (1, 2049, false),
+    ] {
+        let name = name_of(alloc, length)?;
+        let entries = nested(alloc, name.as_str(), depth)?;
+        assert_eq!(rt; is_taken(alloc, entries), taken);
+    }
+    Ok(())
+}
+
+/// A folder of the file `f` in the directory `d`, which fails at its second listing and its second read.
+fn folder(alloc: Global) -> Result<MemFolder, AllocError> {
+    let entries = entries_of(alloc, &[("d", Kind::Dir, ""), ("d/f", Kind::File, "xyz")])?;
+    let fails = vec![in alloc; 1]?;
+    match Entries::new(alloc, entries) {
+        Ok(entries) => Ok(MemFolder::new(entries, fails, vec![in alloc; 1]?)),
+        Err(_) => Err(AllocError),
+    }
+}
+
+#[test]
+fn a_folder_in_memory_fails_at_the_calls_that_it_is_given(rt: HostRuntime) -> Result<(), Fail> {
+    let alloc = rt.alloc();
+    let mut folder = folder(alloc)?;
+    for (count, listed) in [(1, true), (2, false), (3, true)] {
+        let answer = match folder.list(alloc) {
+            Ok(listing) => listing.len() == 2 && listing[1].size == 3,
+            Err(error) => error != FolderError::Failed,
+        };
+        assert_eq!(rt; (count, answer), (count, listed));
+    }
+    let mut bytes = Vec::new(alloc);
+    assert_eq!(rt; folder.read("d/f", &mut bytes), Ok(()));
+    assert_eq!(rt; folder.read("d/f", &mut bytes), Err(FolderError::Failed));
+    assert_eq!(rt; folder.read("d/f", &mut bytes), Ok(()));
+    assert_eq!(rt; bytes.as_slice(), b"xyzxyz".as_slice());
+    for path in ["d", "f", "d/g", ""] {
+        assert_eq!(rt; folder.read(path, &mut bytes), Err(FolderError::Failed));
+    }
+    Ok(())
+}
+
+/// A folder of files and links that tells nothing: each file gives the same bytes, whatever is listed.
+#[derive(Drop)]
+struct Fake {
+    rows: Vec<(Text, Kind, u64)>,
+    gives: Vec<u8>,
+    failed_reads: u64,
+}
+
+impl Folder for Fake {
+    ghost use Rattle.std.specs.Prelude.{None};
+
+    ghost tree = { λ folder. None };
+
+    ghost failed_reads = { λ folder. folder.failed_reads };
+
+    fn list(&mut self, alloc: Global) -> Result<Vec<Listed>, FolderError> {
+        match listing_of(alloc, &self.rows) {
+            Ok(listing) if is_listing(&listing) => Ok(listing),
+            Ok(_) => {
+                self.failed_reads = self.failed_reads.saturating_add(1);
+                Err(FolderError::Failed)
+            }
+            Err(_) => Err(FolderError::Memory),
+        }
+    }
+
+    fn read(&mut self, _path: &str, into: &mut Vec<u8>) -> Result<(), FolderError> {
+        match into.extend_from_slice(&self.gives) {
+            Ok(()) => Ok(()),
+            Err(_) => Err(FolderError::Memory),
+        }
+    }
+}
+
+fn listing_of(alloc: Global, rows: &[(Text, Kind, u64)]) -> Result<Vec<Listed>, AllocError> {
+    let mut listing = Vec::new(alloc);
+    for (path, kind, size) in rows {
+        listing.push(Listed {
+            path: Text::new(alloc, path.as_str())?,
+            kind: *kind,
+            size: *size,
+        })?;
+    }
+    Ok(listing)
+}
+
+/// How a load ended, as a text.
+fn load<F: Folder>(alloc: Global, folder: &mut F) -> Result<String, AllocError> {
+    match load_tree(alloc, folder) {
+        Ok(loaded) => format!(in alloc; "loaded {}", loaded.listed.len()),
+        Err(LoadFault::TooMany(count)) => format!(in alloc; "{count} entries"),
+        Err(LoadFault::Link(path)) => format!(in alloc; "link {}", path.as_str()),
+        Err(LoadFault::TooBig(path, count)) => format!(in alloc; "{} of {count}", path.as_str()),
+        Err(LoadFault::ReadFault) => String::from_str(alloc, "read fault"),
+        Err(LoadFault::Memory) => String::from_str(alloc, "memory"),
+    }
+}
+
+/// How the load of files ends that are listed so, and give so many bytes.
+fn load_listed(
+    alloc: Global,
+    rows: &[(&str, Kind, u64)],
+    gives: usize,
+) -> Result<String, AllocError> {
+    let mut list = Vec::new(alloc);
+    for (path, kind, size) in rows {
+        list.push((Text::new(alloc, path)?, *kind, *size))?;
+    }
+    let mut bytes = Vec::new(alloc);
+    bytes.resize(gives, 0)?;
+    let mut folder = Fake {
+        rows: list,
+        gives: bytes,
+        failed_reads: 0,
+    };
+    load(alloc, &mut folder)
+}
+
+#[test]
+fn the_first_cause_is_answered(rt: HostRuntime) -> Result<(), Fail> {
+    const MOST: u64 = 16_777_216;
+    let table: [(&[(&str, Kind, u64)], usize, &str); 9] = [
+        (
+            &[("a", Kind::File, MOST + 1), ("b", Kind::Other, 0)],
+            0,
+            "a of 16777217",
+        ),
+        (
+            &[("a", Kind::Other, 0), ("b", Kind::File, MOST + 1)],
+            0,
+            "link a",
+        ),
+        (&[("a", Kind::File, MOST)], 0, "loaded 1"),
+        // what isn't loaded isn't looked at
+        (
+            &[("rv-a", Kind::Other, 0), ("rv-b", Kind::File, MOST + 1)],
+            0,
+            "loaded 2",
+        ),
+        (
+            &[("d", Kind::Dir, MOST + 1), ("d/rv-a", Kind::Other, 0)],
+            0,
+            "link d/rv-a",
+        ),
+        // a file that gives more counts with what it gave
+        (&[("a", Kind::File, 3)], 4, "loaded 1"),
+        (
+            &[("a", Kind::File, 3), ("b", Kind::File, 3)],
+            16_777_217,
+            "a of 16777217",
+        ),
+        (
+            &[
+                ("d", Kind::Dir, 0),
+                ("d/f", Kind::File, 0),
+                ("d/g", Kind::File, 0),
+            ],
+            2,
+            "loaded 3",
+        ),
+        (
+            &[("b", Kind::File, 0), ("a", Kind::File, 0)],
+            0,
+            "read fault",
+        ),
+    ];
+    let alloc = rt.alloc();
+    for (rows, gives, ended) in &table {
+        let answer = load_listed(alloc, rows, *gives)?;
+        assert_eq!(rt; answer.as_str(), *ended);
+    }
+    Ok(())
+}
+
+/// Files of these sizes in turn.
+fn sized(alloc: Global, count: u32, size: u64, last: u64) -> Result<String, AllocError> {
+    let mut rows = Vec::new(alloc);
+    for number in 0..count {
+        let name = format!(in alloc; "f{number:05}")?;
+        rows.push((Text::from_string(name), Kind::File, size))?;
+    }
+    rows.push((Text::new(alloc, "g")?, Kind::File, last))?;
+    let mut folder = Fake {
+        rows,
+        gives: Vec::new(alloc),
+        failed_reads: 0,
+    };
+    load(alloc, &mut folder)
+}
+
+#[test]
+fn the_limits_of_entries_and_of_bytes(rt: HostRuntime) -> Result<(), Fail> {
+    let table = [
+        (4095, 0, 0, "loaded 4096"),
+        (4096, 0, 0, "4097 entries"),
+        (15, 16_777_216, 16_777_216, "loaded 16"),
+        (16, 16_777_216, 0, "loaded 17"),
+        (16, 16_777_216, 1, "g of 1"),
+    ];
+    let alloc = rt.alloc();
+    for (count, size, last, ended) in table {
+        let answer = sized(alloc, count, size, last)?;
+        assert_eq!(rt; answer.as_str(), ended);
+    }
+    Ok(())
+}
+
+/// What stands at a path of a tree: the inode, or the errno's number below zero, and the first bytes.
+fn stands(loaded: &Loaded, path: &str) -> (i64, [u8; 4]) {
+    let mut bytes = [0; 4];
+    match loaded.tree.walk(loaded.tree.root(), path.as_bytes()) {
+        Ok(inode) => {
+            if loaded.tree.kind(inode) == file_tree::Kind::File {
+                loaded.tree.read_at(inode, 0, &mut bytes);
+            }
+            (if inode < 1 << 32 { inode as i64 } else { 0 }, bytes)
+        }
+        Err(errno) => (-errno.code(), bytes),
+    }
+}
+
+#[test]
+fn the_tree_has_the_entries_in_their_order(rt: HostRuntime) -> Result<(), Fail> {
+    let alloc = rt.alloc();
+    let rows = [
+        ("d", Kind::Dir, ""),
+        ("d!", Kind::File, "a"),
+        ("d/f", Kind::File, "xyz"),
+        ("g", Kind::File, ""),
+        ("rv-d", Kind::Dir, ""),
+        ("rv-d/f", Kind::File, "q"),
+    ];
+    let entries = match Entries::new(alloc, entries_of(alloc, &rows)?) {
+        Ok(entries) => entries,
+        Err(_) => return Err(Fail::from(AllocError)),
+    };
+    let mut folder = MemFolder::new(entries, Vec::new(alloc), Vec::new(alloc));
+    let loaded = match load_tree(alloc, &mut folder) {
+        Ok(loaded) => loaded,
+        Err(_) => return Err(Fail::from(AllocError)),
+    };
+    assert_eq!(rt; loaded.listed.len(), 6);
+    for (path, inode, bytes) in [
+        ("d", 2, [0, 0, 0, 0]),
+        ("d!", 3, [b'a', 0, 0, 0]),
+        ("d/f", 4, [b'x', b'y', b'z', 0]),
+        ("g", 5, [0, 0, 0, 0]),
+        ("rv-d", -2, [0, 0, 0, 0]),
+    ] {
+        assert_eq!(rt; stands(&loaded, path), (inode, bytes));
+    }
+    Ok(())
+}
+
+#[test]
+fn a_folder_that_fails_is_a_read_fault(rt: HostRuntime) -> Result<(), Fail> {
+    let alloc = rt.alloc();
+    let mut folder = folder(alloc)?;
+    // its second listing and its second read fail
+    for ended in ["loaded 2", "read fault", "read fault", "loaded 2"] {
+        let answer = load(alloc, &mut folder)?;
+        assert_eq!(rt; answer.as_str(), ended);
+    }
+    Ok(())
+}
