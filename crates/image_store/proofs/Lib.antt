@@ -2,5 +2,8 @@ pub mod OrderFacts
 pub mod PieceFacts
 pub mod ParentFacts
 pub mod FileFacts
+pub mod ChangeFacts
+pub mod AllPathFacts
 pub mod AddFacts
 pub mod LoadFacts
+pub mod StoreFacts

@@ -66,7 +66,7 @@ less_once one other less same =
 reversed : (one other : List ℕ) → cmp one other ≡ Less → is_lt (cmp other one) ≡ false
 reversed one other less = rw (nat_list_cmp_total.antisymm other one, less) refl
 
-sorted : {X : Type 0} (key : X → List ℕ) (xs : List X) → IsStrictlySortedBy cmp (map key xs) → IsSortedBy (λ a b. is_lt (cmp (key a) (key b))) xs
+pub sorted : {X : Type 0} (key : X → List ℕ) (xs : List X) → IsStrictlySortedBy cmp (map key xs) → IsSortedBy (λ a b. is_lt (cmp (key a) (key b))) xs
 sorted key xs rises k d low within = reversed (key (get_or xs k d)) (key (get_or xs (k + 1) d)) (below_at key xs k (k + 1) d rises (omega arith) within)
 
 -- each text stands at one place

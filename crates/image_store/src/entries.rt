@@ -1,13 +1,15 @@
-ghost use Rattle.std.specs.Prelude.{◌≡◌, ◌<◌, None, Err, IfOk, IfSome, length, map};
+ghost use Rattle.std.specs.Prelude.{◌≡◌, ◌≢◌, ◌<◌, ◌≤◌, ◌++◌, ◌∷◌, ℕ, true, false, List, None, Some, Ok, Err, IfOk, IfSome, IsTrue, OnOk, OnErr, length, map};
+ghost use Rattle.std.specs.List.{All};
 ghost use Rattle.std.specs.List.Sorted.{IsBinarySearchResult, IsSearchInRange};
 ghost use Rattle.std.specs.Ordering.{nat_cmp};
 ghost use Rattle.std.specs.Cmp.Lexicographic.{slice_cmp};
 ghost use Rattle.image_store.specs.Files.{listed, NamesFile, IsFileOf};
-ghost use Rattle.image_store.specs.Listing.{IsListing};
+ghost use Rattle.image_store.specs.Changes.{IsChanged};
+ghost use Rattle.image_store.specs.Listing.{HasDir, IsHousedAt, IsListing};
 ghost use Rattle.image_store.specs.declared.entries.EntriesFault.TheVariants.{NoListing};
 
 use crate::folder::{Entry, Kind, Listed};
-use crate::listing::{is_listing, order};
+use crate::listing::{is_listing, is_path, last_slash, order};
 use file_tree::Text;
 use std::alloc::{AllocError, Global};
 use std::marker::Model;
@@ -17,6 +19,15 @@ use std::marker::Model;
 pub enum EntriesFault {
     /// They are no listing.
     NoListing,
+    /// Want of memory.
+    Memory,
+}
+
+/// Why entries weren't changed.
+#[derive(Clone, Copy, Debug, PartialEq, Eq)]
+pub enum ChangeFault {
+    /// They would be no listing, or something else stands there.
+    Refused,
     /// Want of memory.
     Memory,
 }
@@ -72,6 +83,142 @@ impl Entries {
     {
         file_of(&self.list, path)
     }
+
+    /// Puts an entry at its path: a file in place of a file, or a file or a directory where nothing stands, in a directory
+    /// that is there. Its cost is in the number of the entries behind it.
+    pub fn put(&mut self, entry: Entry) -> Result<(), ChangeFault>
+        ensures ok { OnOk result (IsChanged entry.path (Some entry) self.old self.new) }
+        ensures err { OnErr result (self.new ≡ self.old) }
+    {
+        match place_of(&self.list, entry.path.as_str()) {
+            Ok(place) => replace(&mut self.list, place, entry),
+            Err(place) => insert(&mut self.list, place, entry),
+        }
+    }
+
+    /// Takes an entry away under which none stands. Its cost is in the number of entries.
+    pub fn remove(&mut self, path: &str) -> Result<(), ChangeFault>
+        ensures ok { OnOk result (IsChanged path.now None self.old self.new) }
+        ensures err { OnErr result (self.new ≡ self.old) }
+    {
+        match place_of(&self.list, path) {
+            Ok(place) => take(&mut self.list, place, path),
+            Err(_) => Err(ChangeFault::Refused),
+        }
+    }
+}
+
+/// Puts a file in place of one.
+fn replace(entries: &mut Vec<Entry>, place: usize, entry: Entry) -> Result<(), ChangeFault>
+    requires sound { IsListing (map listed entries.old.items) }
+    requires within { place < length entries.old.items }
+    requires position { IsBinarySearchResult (λ other. slice_cmp nat_cmp other.path entry.path) entries.old.items (Ok place) }
+    ensures ok { OnOk result (IsChanged entry.path (Some entry) entries.old.items entries.new.items) }
+    ensures err { OnErr result (entries.new.items ≡ entries.old.items) }
+{
+    if is_file(&entries[place]) {
+        if is_file(&entry) {
+            entries[place] = entry;
+            return Ok(());
+        }
+    }
+    Err(ChangeFault::Refused)
+}
+
+/// Puts an entry where none of its path stands.
+fn insert(entries: &mut Vec<Entry>, place: usize, entry: Entry) -> Result<(), ChangeFault>
+    requires sound { IsListing (map listed entries.old.items) }
+    requires within { place ≤ length entries.old.items }
+    requires position { IsBinarySearchResult (λ other. slice_cmp nat_cmp other.path entry.path) entries.old.items (Err place) }
+    ensures ok { OnOk result (IsChanged entry.path (Some entry) entries.old.items entries.new.items) }
+    ensures err { OnErr result (entries.new.items ≡ entries.old.items) }
+{
+    if !is_path(entry.path.as_str()) {
+        return Err(ChangeFault::Refused);
+    }
+    if !is_housed(entries, entry.path.as_str().as_bytes()) {
+        return Err(ChangeFault::Refused);
+    }
+    match entries.insert(place, entry) {
+        Ok(()) => Ok(()),
+        Err(_) => Err(ChangeFault::Memory),
+    }
+}
+
+/// Takes the entry of a path away, unless one stands below it.
+fn take(entries: &mut Vec<Entry>, place: usize, path: &str) -> Result<(), ChangeFault>
+    requires sound { IsListing (map listed entries.old.items) }
+    requires within { place < length entries.old.items }
+    requires position { IsBinarySearchResult (λ other. slice_cmp nat_cmp other.path path.now) entries.old.items (Ok place) }
+    ensures ok { OnOk result (IsChanged path.now None entries.old.items entries.new.items) }
+    ensures err { OnErr result (entries.new.items ≡ entries.old.items) }
+{
+    if has_below(entries, path.as_bytes()) {
+        return Err(ChangeFault::Refused);
+    }
+    let _ = entries.remove(place);
+    Ok(())
+}
+
+fn is_file(entry: &Entry) -> bool
+    ensures { result ≡ true → entry.now.kind ≡ Kind.File }
+{
+    match entry.kind {
+        Kind::File => true,
+        Kind::Dir => false,
+        Kind::Other => false,
+    }
+}
+
+fn is_dir(entry: &Entry) -> bool
+    ensures { IsTrue result → entry.now.kind ≡ Kind.Dir }
+{
+    match entry.kind {
+        Kind::Dir => true,
+        Kind::File => false,
+        Kind::Other => false,
+    }
+}
+
+/// Whether the directory in which a path stands is there, or is the folder itself.
+fn is_housed(entries: &[Entry], path: &[u8]) -> bool
+    ensures { IsTrue result → IsHousedAt (map listed entries.now) path.now }
+{
+    match last_slash(path) {
+        Some(slash) => has_dir(entries, &path[..slash]),
+        None => true,
+    }
+}
+
+fn has_dir(entries: &[Entry], path: &[u8]) -> bool
+    ensures { IsTrue result → HasDir (map listed entries.now) path.now }
+{
+    match place_at(entries, path) {
+        Ok(place) => is_dir(&entries[place]),
+        Err(_) => false,
+    }
+}
+
+/// Whether an entry stands below a path.
+fn has_below(entries: &[Entry], path: &[u8]) -> bool
+    ensures { result ≡ false → All (λ entry. (rest : List ℕ) → entry.path ≢ path.now ++ 47 ∷ rest) entries.now }
+{
+    for entry in entries {
+        if is_below(entry.path.as_str().as_bytes(), path) {
+            return true;
+        }
+    }
+    false
+}
+
+/// Whether a path stands below another.
+fn is_below(path: &[u8], other: &[u8]) -> bool
+    ensures { result ≡ false → (rest : List ℕ) → path.now ≢ other.now ++ 47 ∷ rest }
+{
+    match path.strip_prefix(other) {
+        Some(rest) => rest.first() == Some(&b'/'),
+        None => false,
+    }
 }
 
 /// The bytes of the file at a path.
@@ -113,4 +260,12 @@ fn place_of(entries: &[Entry], path: &str) -> Result<usize, usize>
     ensures position { IsBinarySearchResult (λ entry. slice_cmp nat_cmp entry.path path.now) entries.now result }
 {
     entries.binary_search_by(|entry| order(&entry.path, path.as_bytes()))
+}
+
+/// The same of a path's bytes.
+fn place_at(entries: &[Entry], path: &[u8]) -> Result<usize, usize>
+    ensures bound { IsSearchInRange result (length entries.now) }
+    ensures position { IsBinarySearchResult (λ entry. slice_cmp nat_cmp entry.path path.now) entries.now result }
+{
+    entries.binary_search_by(|entry| order(&entry.path, path))
 }

@@ -84,7 +84,7 @@ fn is_housed(listing: &[Listed], path: &[u8]) -> bool
 }
 
 /// Where the last slash of a path stands.
-fn last_slash(path: &[u8]) -> Option<usize>
+pub(crate) fn last_slash(path: &[u8]) -> Option<usize>
     ensures within { IfSome result (λ slash. slash < length path.now) }
     ensures found { IfSome result (λ slash. slice_index path.now slash ≡ 47) }
     ensures last { IfSome result (λ slash. (place : ℕ) → slash < place → place < length path.now → slice_index path.now place ≢ 47) }
@@ -139,7 +139,7 @@ pub(crate) fn order(path: &Text, other: &[u8]) -> Ordering
 
 /// Whether an entry may have the path.
 #[tactic(auto, unfolding(crate::specs::Listing::is_path))]
-fn is_path(path: &str) -> bool
+pub(crate) fn is_path(path: &str) -> bool
     ensures { result ≡ path_is path.now }
 {
     path.len() <= PATH_LIMIT && are_names(path)

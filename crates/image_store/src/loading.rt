@@ -77,7 +77,7 @@ pub fn load_tree<F: Folder>(alloc: Global, folder: &mut F) -> Result<Loaded, Loa
 }
 
 /// Whether an entry isn't loaded.
-fn is_own(entry: &Listed) -> bool
+pub(crate) fn is_own(entry: &Listed) -> bool
     ensures { result ≡ own_is entry.now.path }
 {
     match entry.path.as_str().as_bytes() {

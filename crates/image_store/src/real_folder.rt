@@ -18,6 +18,7 @@ pub struct RealFolder<R: Files + AllocGlobal + Clone + Drop> {
     rt: R,
     path: String,
     failed_reads: u64,
+    failed_writes: u64,
 }
 
 impl<R: Files + AllocGlobal + Clone + Drop> RealFolder<R> {
@@ -26,6 +27,7 @@ impl<R: Files + AllocGlobal + Clone + Drop> RealFolder<R> {
             rt,
             path,
             failed_reads: 0,
+            failed_writes: 0,
         }
     }
 }
@@ -34,6 +36,8 @@ impl<R: Files + AllocGlobal + Clone + Drop> Folder for RealFolder<R> {
     ghost tree = { λ folder. None };
 
     ghost failed_reads = { λ folder. folder.failed_reads };
+
+    ghost failed_writes = { λ folder. folder.failed_writes };
 
     fn list(&mut self, alloc: Global) -> Result<Vec<Listed>, FolderError> {
         match list_sorted(&self.rt, alloc, self.path.as_str()) {
@@ -57,6 +61,36 @@ impl<R: Files + AllocGlobal + Clone + Drop> Folder for RealFolder<R> {
                 let error = error_of(&error);
                 self.failed_reads = self.failed_reads.saturating_add(1);
                 Err(error)
+            }
+        }
+    }
+
+    fn write(&mut self, alloc: Global, path: &str, bytes: &[u8]) -> Result<(), FolderError> {
+        match write_file(&self.rt, alloc, self.path.as_str(), path, bytes) {
+            Ok(()) => Ok(()),
+            Err(error) => {
+                self.failed_writes = self.failed_writes.saturating_add(1);
+                Err(error_of(&error))
+            }
+        }
+    }
+
+    fn make_dir(&mut self, alloc: Global, path: &str) -> Result<(), FolderError> {
+        match make_dir(&self.rt, alloc, self.path.as_str(), path) {
+            Ok(()) => Ok(()),
+            Err(error) => {
+                self.failed_writes = self.failed_writes.saturating_add(1);
+                Err(error_of(&error))
+            }
+        }
+    }
+
+    fn remove(&mut self, path: &str) -> Result<(), FolderError> {
+        match remove_entry(&self.rt, self.path.as_str(), path) {
+            Ok(()) => Ok(()),
+            Err(error) => {
+                self.failed_writes = self.failed_writes.saturating_add(1);
+                Err(error_of(&error))
             }
         }
     }
@@ -91,6 +125,49 @@ fn read_file<R: Files + AllocGlobal>(
     let bytes = fs::read(rt, joined.as_str())?;
     into.extend_from_slice(&bytes)?;
     Ok(())
+}
+
+/// The name beside a file under which its new bytes are written first.
+const BESIDE: &str = "rv-write";
+
+/// Writes the bytes beside the file, in the folder itself, and puts them in its place in one step: a failure leaves the old
+/// file. What is left beside it is taken away.
+///
+/// References: rename(2).
+fn write_file<R: Files>(
+    rt: &R,
+    alloc: Global,
+    folder: &str,
+    path: &str,
+    bytes: &[u8],
+) -> io::Result<()> {
+    let joined = join(alloc, folder, path)?;
+    let beside = join(alloc, folder, BESIDE)?;
+    match put_in_place(rt, beside.as_str(), joined.as_str(), bytes) {
+        Ok(()) => Ok(()),
+        Err(error) => {
+            let _ = fs::remove_file(rt, beside.as_str());
+            Err(error)
+        }
+    }
+}
+
+fn put_in_place<R: Files>(rt: &R, beside: &str, path: &str, bytes: &[u8]) -> io::Result<()> {
+    fs::write(rt, beside, bytes)?;
+    fs::rename(rt, beside, path)
+}
+
+fn make_dir<R: Files>(rt: &R, alloc: Global, folder: &str, path: &str) -> io::Result<()> {
+    let joined = join(alloc, folder, path)?;
+    fs::create_dir(rt, joined.as_str())
+}
+
+fn remove_entry<R: Files + AllocGlobal>(rt: &R, folder: &str, path: &str) -> io::Result<()> {
+    let joined = join(rt.alloc(), folder, path)?;
+    if fs::symlink_metadata(rt, joined.as_str())?.is_dir() {
+        return fs::remove_dir(rt, joined.as_str());
+    }
+    fs::remove_file(rt, joined.as_str())
 }
 
 /// A directory whose entries are still to be listed: its path in the file system, and in the folder with a slash

@@ -1,5 +1,5 @@
 use super::*;
-use file_tree::Text;
+use file_tree::{Text, Tree};
 use le_fields::Bytes;
 use std::alloc::{AllocError, Global};
 use std::test::Fail;
@@ -108,14 +108,39 @@ fn the_longest_names_and_paths(rt: HostRuntime) -> Result<(), Fail> {
     Ok(())
 }
 
-/// A folder of the file `f` in the directory `d`, which fails at its second listing and its second read.
-fn folder(alloc: Global) -> Result<MemFolder, AllocError> {
-    let entries = entries_of(alloc, &[("d", Kind::Dir, ""), ("d/f", Kind::File, "xyz")])?;
-    let fails = vec![in alloc; 1]?;
-    match Entries::new(alloc, entries) {
-        Ok(entries) => Ok(MemFolder::new(entries, fails, vec![in alloc; 1]?)),
+/// No call fails.
+fn none_failing(alloc: Global) -> FailingCalls {
+    FailingCalls {
+        lists: Vec::new(alloc),
+        reads: Vec::new(alloc),
+        writes: Vec::new(alloc),
+        makes: Vec::new(alloc),
+        removes: Vec::new(alloc),
+    }
+}
+
+/// A folder of these entries.
+fn folder_of(
+    alloc: Global,
+    rows: &[Row<'_>],
+    failing: FailingCalls,
+) -> Result<MemFolder, AllocError> {
+    match Entries::new(alloc, entries_of(alloc, rows)?) {
+        Ok(entries) => Ok(MemFolder::new(entries, failing)),
         Err(_) => Err(AllocError),
     }
+}
+
+/// A folder of the file `f` in the directory `d`, which fails at its second listing and its second read.
+fn folder(alloc: Global) -> Result<MemFolder, AllocError> {
+    let mut failing = none_failing(alloc);
+    failing.lists.push(1)?;
+    failing.reads.push(1)?;
+    folder_of(
+        alloc,
+        &[("d", Kind::Dir, ""), ("d/f", Kind::File, "xyz")],
+        failing,
+    )
 }
 
 #[test]
@@ -155,6 +180,8 @@ impl Folder for Fake {
 
     ghost failed_reads = { λ folder. folder.failed_reads };
 
+    ghost failed_writes = { λ folder. 0 };
+
     fn list(&mut self, alloc: Global) -> Result<Vec<Listed>, FolderError> {
         match listing_of(alloc, &self.rows) {
             Ok(listing) if is_listing(&listing) => Ok(listing),
@@ -171,6 +198,18 @@ impl Folder for Fake {
             Ok(()) => Ok(()),
             Err(_) => Err(FolderError::Memory),
         }
+    }
+
+    fn write(&mut self, _alloc: Global, _path: &str, _bytes: &[u8]) -> Result<(), FolderError> {
+        Err(FolderError::Memory)
+    }
+
+    fn make_dir(&mut self, _alloc: Global, _path: &str) -> Result<(), FolderError> {
+        Err(FolderError::Memory)
+    }
+
+    fn remove(&mut self, _path: &str) -> Result<(), FolderError> {
+        Err(FolderError::Memory)
     }
 }
 
@@ -332,11 +371,7 @@ fn the_tree_has_the_entries_in_their_order(rt: HostRuntime) -> Result<(), Fail> 
         ("rv-d", Kind::Dir, ""),
         ("rv-d/f", Kind::File, "q"),
     ];
-    let entries = match Entries::new(alloc, entries_of(alloc, &rows)?) {
-        Ok(entries) => entries,
-        Err(_) => return Err(Fail::from(AllocError)),
-    };
-    let mut folder = MemFolder::new(entries, Vec::new(alloc), Vec::new(alloc));
+    let mut folder = folder_of(alloc, &rows, none_failing(alloc))?;
     let loaded = match load_tree(alloc, &mut folder) {
         Ok(loaded) => loaded,
         Err(_) => return Err(Fail::from(AllocError)),
@@ -362,6 +397,233 @@ fn a_folder_that_fails_is_a_read_fault(rt: HostRuntime) -> Result<(), Fail> {
     for ended in ["loaded 2", "read fault", "read fault", "loaded 2"] {
         let answer = load(alloc, &mut folder)?;
         assert_eq!(rt; answer.as_str(), ended);
+    }
+    Ok(())
+}
+
+/// What a folder holds, as a text: its paths in their order, a directory's with a slash and a file's with its bytes.
+fn text_of(alloc: Global, folder: &mut MemFolder) -> Result<String, AllocError> {
+    let mut text = String::new(alloc);
+    let listing = match folder.list(alloc) {
+        Ok(listing) => listing,
+        Err(_) => return Ok(text),
+    };
+    for entry in &listing {
+        text.push(' ')?;
+        text.push_str(entry.path.as_str())?;
+        text.push(if entry.kind == Kind::Dir { '/' } else { ':' })?;
+        let mut bytes = Vec::new(alloc);
+        if entry.kind == Kind::File && folder.read(entry.path.as_str(), &mut bytes).is_ok() {
+            for byte in &bytes {
+                text.push(char::from(*byte))?;
+            }
+        }
+    }
+    Ok(text)
+}
+
+/// A call that changes a folder.
+#[derive(Clone, Copy)]
+enum Call {
+    Write,
+    MakeDir,
+    Remove,
+}
+
+fn answer_of(
+    alloc: Global,
+    folder: &mut MemFolder,
+    call: Call,
+    path: &str,
+) -> Result<(), FolderError> {
+    match call {
+        Call::Write => folder.write(alloc, path, b"news"),
+        Call::MakeDir => folder.make_dir(alloc, path),
+        Call::Remove => folder.remove(path),
+    }
+}
+
+/// What a call answers and leaves of the files `d/f` and `g`, as a text. If it is to fail, its first call does.
+fn called(alloc: Global, call: Call, path: &str, fails: bool) -> Result<String, AllocError> {
+    let mut failing = none_failing(alloc);
+    if fails {
+        failing.writes.push(0)?;
+        failing.makes.push(0)?;
+        failing.removes.push(0)?;
+    }
+    let rows = [
+        ("d", Kind::Dir, ""),
+        ("d/f", Kind::File, "xyz"),
+        ("g", Kind::File, "q"),
+    ];
+    let mut folder = folder_of(alloc, &rows, failing)?;
+    let answer = match answer_of(alloc, &mut folder, call, path) {
+        Ok(()) => "done",
+        Err(FolderError::Failed) => "failed",
+        Err(FolderError::Memory) => "memory",
+    };
+    let mut text = String::from_str(alloc, answer)?;
+    text.push_str(text_of(alloc, &mut folder)?.as_str())?;
+    Ok(text)
+}
+
+#[test]
+fn changes_of_a_folder_and_what_a_failed_one_leaves(rt: HostRuntime) -> Result<(), Fail> {
+    let table = [
+        (Call::Write, "g", false, "done d/ d/f:xyz g:news"),
+        (Call::Write, "d/h", false, "done d/ d/f:xyz d/h:news g:q"),
+        (Call::Write, "a", false, "done a:news d/ d/f:xyz g:q"),
+        (Call::Write, "d", false, "failed d/ d/f:xyz g:q"),
+        (Call::Write, "e/h", false, "failed d/ d/f:xyz g:q"),
+        (Call::Write, "g/h", false, "failed d/ d/f:xyz g:q"),
+        (Call::Write, "d//h", false, "failed d/ d/f:xyz g:q"),
+        (Call::Write, "g", true, "failed d/ d/f:xyz g:ne"),
+        (Call::Write, "h", true, "failed d/ d/f:xyz g:q h:ne"),
+        (Call::MakeDir, "e", false, "done d/ d/f:xyz e/ g:q"),
+        (Call::MakeDir, "d/e", false, "done d/ d/e/ d/f:xyz g:q"),
+        (Call::MakeDir, "d", false, "failed d/ d/f:xyz g:q"),
+        (Call::MakeDir, "g", false, "failed d/ d/f:xyz g:q"),
+        (Call::MakeDir, "e/f", false, "failed d/ d/f:xyz g:q"),
+        (Call::MakeDir, "e", true, "failed d/ d/f:xyz g:q"),
+        (Call::Remove, "g", false, "done d/ d/f:xyz"),
+        (Call::Remove, "d/f", false, "done d/ g:q"),
+        (Call::Remove, "d", false, "failed d/ d/f:xyz g:q"),
+        (Call::Remove, "h", false, "failed d/ d/f:xyz g:q"),
+        (Call::Remove, "g", true, "failed d/ d/f:xyz g:q"),
+    ];
+    let alloc = rt.alloc();
+    for (call, path, fails, left) in table {
+        let text = called(alloc, call, path, fails)?;
+        assert_eq!(rt; text.as_str(), left);
+    }
+    Ok(())
+}
+
+/// Takes an entry from a tree.
+fn unlink(tree: &mut Tree, path: &str, dir: bool) -> Result<(), AllocError> {
+    let root = tree.root();
+    match tree.unlink(root, path.as_bytes(), dir) {
+        Ok(()) => Ok(()),
+        Err(_) => Err(AllocError),
+    }
+}
+
+fn make_dir(alloc: Global, tree: &mut Tree, path: &str) -> Result<(), AllocError> {
+    let root = tree.root();
+    match tree.create_dir(alloc, root, path.as_bytes()) {
+        Ok(_) => Ok(()),
+        Err(_) => Err(AllocError),
+    }
+}
+
+/// Makes a file with these bytes, or writes them over the beginning of the one that is there.
+fn put(alloc: Global, tree: &mut Tree, path: &str, bytes: &str) -> Result<(), AllocError> {
+    let root = tree.root();
+    if tree.walk(root, path.as_bytes()).is_err() {
+        let _ = tree.create_file(alloc, root, path.as_bytes());
+    }
+    let root = tree.root();
+    match tree.walk(root, path.as_bytes()) {
+        Ok(inode) => {
+            if tree.kind(inode) == file_tree::Kind::File
+                && tree.write_at(inode, 0, bytes.as_bytes()).is_ok()
+            {
+                return Ok(());
+            }
+            Err(AllocError)
+        }
+        Err(_) => Err(AllocError),
+    }
+}
+
+/// Changes a tree: a file in place of the directory `d` and one in `k`, a directory in place of the file `k`, and another
+/// with a file; `g` gets other bytes, `h` the same again, and `p` goes.
+fn change(alloc: Global, tree: &mut Tree) -> Result<(), AllocError> {
+    unlink(tree, "d/f", false)?;
+    unlink(tree, "d", true)?;
+    put(alloc, tree, "d", "file")?;
+    put(alloc, tree, "g", "news")?;
+    put(alloc, tree, "h", "same")?;
+    unlink(tree, "k", false)?;
+    make_dir(alloc, tree, "k")?;
+    put(alloc, tree, "k/x", "1")?;
+    make_dir(alloc, tree, "m")?;
+    unlink(tree, "p", false)
+}
+
+/// How writing the changed tree back ends, and what it leaves, as a text.
+fn written_back(alloc: Global, failing: FailingCalls) -> Result<String, AllocError> {
+    let rows = [
+        ("d", Kind::Dir, ""),
+        ("d/f", Kind::File, "xyz"),
+        ("g", Kind::File, "q"),
+        ("h", Kind::File, "same"),
+        ("k", Kind::File, "gone"),
+        ("p", Kind::File, ""),
+        ("rv-p", Kind::File, "own"),
+    ];
+    let mut folder = folder_of(alloc, &rows, failing)?;
+    let before = match load_tree(alloc, &mut folder) {
+        Ok(loaded) => loaded,
+        Err(_) => return Err(AllocError),
+    };
+    let mut after = before.tree.copy()?;
+    change(alloc, &mut after)?;
+    let answer = match write_back(alloc, &mut folder, &before, &after) {
+        Ok(()) => "done",
+        Err(StoreFault::WriteFault) => "fault",
+        Err(StoreFault::Memory) => "memory",
+    };
+    let mut text = String::from_str(alloc, answer)?;
+    text.push_str(text_of(alloc, &mut folder)?.as_str())?;
+    Ok(text)
+}
+
+/// The failing calls of one kind: the call of this number.
+fn failing_at(alloc: Global, call: Call, number: u64) -> Result<FailingCalls, AllocError> {
+    let mut failing = none_failing(alloc);
+    match call {
+        Call::Write => failing.writes.push(number)?,
+        Call::MakeDir => failing.makes.push(number)?,
+        Call::Remove => failing.removes.push(number)?,
+    }
+    Ok(failing)
+}
+
+#[test]
+fn a_tree_is_written_back_and_a_fault_leaves_what_was_done(rt: HostRuntime) -> Result<(), Fail> {
+    const WHOLE: &str = "done d:file g:news h:same k/ k/x:1 m/ rv-p:own";
+    let table = [
+        // `p`, `k`, `d/f` and `d` go in this order
+        (
+            Call::Remove,
+            0,
+            "fault d/ d/f:xyz g:q h:same k:gone p: rv-p:own",
+        ),
+        (Call::Remove, 2, "fault d/ d/f:xyz g:q h:same rv-p:own"),
+        (Call::Remove, 3, "fault d/ g:q h:same rv-p:own"),
+        (Call::Remove, 4, WHOLE),
+        // `d`, `g` and `k/x` are written in this order, between them `k` is made, and behind them `m`
+        (Call::Write, 0, "fault d:fi g:q h:same rv-p:own"),
+        (Call::Write, 1, "fault d:file g:ne h:same rv-p:own"),
+        (
+            Call::Write,
+            2,
+            "fault d:file g:news h:same k/ k/x: rv-p:own",
+        ),
+        (Call::Write, 3, WHOLE),
+        (Call::MakeDir, 0, "fault d:file g:news h:same rv-p:own"),
+        (
+            Call::MakeDir,
+            1,
+            "fault d:file g:news h:same k/ k/x:1 rv-p:own",
+        ),
+        (Call::MakeDir, 2, WHOLE),
+    ];
+    let alloc = rt.alloc();
+    for (call, number, left) in table {
+        let text = written_back(alloc, failing_at(alloc, call, number)?)?;
+        assert_eq!(rt; text.as_str(), left);
     }
     Ok(())
 }

@@ -11,7 +11,7 @@ use emu_top::sink::{Sink, SinkFailed};
 use emu_top::top::{Finished, TopFault, solo_top};
 use file_tree::Text;
 use guest_core::End;
-use image_store::{Entries, Entry as FolderEntry, Kind, MemFolder};
+use image_store::{Entries, Entry as FolderEntry, FailingCalls, Kind, MemFolder};
 use le_fields::Bytes;
 use std::alloc::{AllocError, Global};
 use std::test::Fail;
@@ -95,7 +95,16 @@ fn folder(
         bytes: Bytes::from_vec(bytes),
     })?;
     match Entries::new(alloc, entries) {
-        Ok(entries) => Ok(MemFolder::new(entries, failing_lists, failing_reads)),
+        Ok(entries) => Ok(MemFolder::new(
+            entries,
+            FailingCalls {
+                lists: failing_lists,
+                reads: failing_reads,
+                writes: Vec::new(alloc),
+                makes: Vec::new(alloc),
+                removes: Vec::new(alloc),
+            },
+        )),
         Err(_) => Err(AllocError),
     }
 }
