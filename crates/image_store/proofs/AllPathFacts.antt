@@ -1,27 +1,25 @@
 -- The paths that are closed under the entries of their directories, and have those of the root, are all paths of a tree.
 use Rattle.std.proofs.Common.{◌≡◌, ℕ, zero, suc, ◌+◌, ◌<◌, ◌≤◌, ◌⊎◌, ◌==◌, ◌||◌, ◌&&◌, nat_lt, not, Bool, true, false, if◌then◌else◌, List, [], ◌∷◌, ◌++◌, map, length, get_or, take, Option, Some, None, IsSome, Result, Ok, Err, refl, sym, ap, ◌∙◌, subst, inl, inr, arith, length-append}
-use Rattle.std.specs.List.{All, AllPass, Contains, list_any, list_all, dedup}
-use Rattle.std.specs.List.Sorted.{IsStrictlySortedBy, IsSorted, IsPermutation}
+use Rattle.std.specs.List.{AllPass, Contains, list_any, list_all, dedup}
+use Rattle.std.specs.List.Sorted.{IsSorted, IsPermutation}
 use Rattle.std.specs.Map.{keys_of}
-use Rattle.std.specs.Ordering.{nat_cmp, is_eq, is_lt, eq_by_cmp}
+use Rattle.std.specs.Ordering.{nat_cmp, eq_by_cmp}
 use Rattle.std.specs.Cmp.Lexicographic.{slice_cmp}
-use Rattle.std.specs.declared.cmp.Ordering.{Ordering}
 use Rattle.std.proofs.lemmas.Cmp.{nat_list_cmp_total, eq_by_cmp_equiv}
 use Rattle.std.proofs.lemmas.List.{length-map, get_or-map, get_or_append_left, get_or_default, append-nil, append_assoc, map-append, take_more}
 use Rattle.std.proofs.lemmas.Bool.{cases_order}
 use Rattle.std.proofs.lemmas.List.Elements.{All-map, All-append, Contains-append_left, Contains-append_right}
 use Rattle.std.proofs.lemmas.List.Folds.{list_all-append}
-use Rattle.std.proofs.lemmas.List.Kept.{Contains-dedup, Contains-from_dedup, IsStrictlySortedBy-dedup}
+use Rattle.std.proofs.lemmas.List.Kept.{Contains-dedup, IsStrictlySortedBy-dedup}
 use Rattle.std.proofs.lemmas.List.Filters.{All-dedup}
 use Rattle.std.proofs.lemmas.List.Sorted.{All-permutation, Contains-permutation}
 use Rattle.std.proofs.lemmas.Map.Views.{All-keys_from_lookup, Contains-keys_from_lookup}
 use Rattle.file_tree.specs.declared.errno.Errno.{Errno}
-use Rattle.file_tree.specs.declared.errno.Errno.TheVariants.{ENOENT, ENOTDIR, ENAMETOOLONG}
+use Rattle.file_tree.specs.declared.errno.Errno.TheVariants.{ENOENT, ENAMETOOLONG}
 use Rattle.file_tree.specs.declared.node.Node.{Node}
 use Rattle.file_tree.specs.declared.node.Directory.{Directory}
 use Rattle.file_tree.specs.declared.node.Body.{Body}
 use Rattle.file_tree.specs.declared.node.Body.TheVariants.{Bytes, Names}
-use Rattle.file_tree.specs.declared.kind.Kind.{Kind}
 use Rattle.file_tree.specs.declared.kind.Kind.TheVariants as nodes
 use Rattle.file_tree.specs.Entries.{Entries, entry_named}
 use Rattle.file_tree.specs.Paths.{pieces, onto, filled, names, is_dot, is_dots, is_absolute, ends_in_slash, path_refused}
@@ -33,7 +31,7 @@ use Rattle.file_tree.proofs.WalkFacts.{follow-append, follow_one, refused_walk, 
 use Rattle.file_tree.proofs.LookFacts.{same_name}
 use Rattle.file_tree.proofs.TreeFacts.{is_some_from}
 use Rattle.image_store.specs.AllPaths.{AreAllPaths, HaveAll, below, below_by, is_straight, path_under, paths_under}
-use Rattle.image_store.proofs.ParentFacts.{IsCut, last_cut}
+use Rattle.image_store.proofs.ParentFacts.{last_cut}
 
 abbrev slashed : List ℕ → Bool
 slashed path = list_any (λ byte. byte == 47) path

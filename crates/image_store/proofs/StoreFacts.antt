@@ -1,5 +1,5 @@
 -- Changes that are done one after another.
-use Rattle.std.proofs.Common.{◌≡◌, ℕ, suc, ◌+◌, ◌-◌, ◌<◌, ◌≤◌, List, [], ◌∷◌, ◌++◌, length, get_or, take, drop, reverse, Option, Result, Ok, Err, OnOk, OnErr, refl, sym, ap, ◌∙◌, subst, inl, inr, arith}
+use Rattle.std.proofs.Common.{◌≡◌, ℕ, ◌+◌, ◌-◌, ◌<◌, ◌≤◌, List, [], ◌∷◌, ◌++◌, length, get_or, take, drop, reverse, Option, Result, Ok, Err, OnOk, OnErr, refl, sym, ap, ◌∙◌, subst, inl, inr, arith}
 use Rattle.std.specs.List.{flat_map}
 use Rattle.std.proofs.lemmas.List.{append-nil, drop_more, take_more, take-append-drop, reverse-append}
 use Rattle.std.proofs.lemmas.List.Concat.{flat_map-append}
@@ -7,23 +7,14 @@ use Rattle.file_tree.specs.Nodes.{Tree}
 use Rattle.image_store.specs.declared.folder.Entry.{Entry}
 use Rattle.image_store.specs.declared.folder.Listed.{Listed}
 use Rattle.image_store.specs.AllPaths.{AreAllPaths}
-use Rattle.image_store.specs.Storing.{AreBegun, AreChanges, AreDone, Change, IsPartlyStored, IsStored, LeftBy, MakeDir, Remove, Write, making, removal}
+use Rattle.image_store.specs.Storing.{AreBegun, AreChanges, AreDone, Change, IsPartlyStored, IsStored, making, removal}
 
 pub done_behind : (front behind : List Change) (old mid new : Option (List Entry)) → AreDone front old mid → AreDone behind mid new → AreDone (front ++ behind) old new
 done_behind [] behind old mid new first second = subst (λ (m : Option (List Entry)). AreDone behind m new) first second
 done_behind (change ∷ front) behind old mid new first second = (first.0, first.1, done_behind front behind first.0 mid new first.2 second)
 
-left_same : (change : Change) (old new : Option (List Entry)) → new ≡ old → LeftBy change old new
-left_same (Remove path) old new same = same
-left_same (MakeDir path) old new same = same
-left_same (Write path bytes) old new same = inl same
-
-pub none_begun : (changes : List Change) (old new : Option (List Entry)) → new ≡ old → AreBegun changes old new
-none_begun [] old new same = same
-none_begun (change ∷ changes) old new same = inl (left_same change old new same)
-
 pub begun_more : (front behind : List Change) (old new : Option (List Entry)) → AreBegun front old new → AreBegun (front ++ behind) old new
-begun_more [] behind old new begun = none_begun behind old new begun
+begun_more [] behind old new begun = absurd begun
 begun_more (change ∷ front) behind old new (inl left) = inl left
 begun_more (change ∷ front) behind old new (inr done) = inr (done.0, done.1, begun_more front behind done.0 new done.2)
 

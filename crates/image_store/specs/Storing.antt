@@ -97,9 +97,9 @@ abbrev pub AreDone : List Change → Option (List Entry) → Option (List Entry)
 AreDone [] old new = new ≡ old
 AreDone (change ∷ changes) old new = (next : Option (List Entry)) × DoneBy change old next × AreDone changes next new
 
--- the changes are done one after another up to one that failed, and none after it
+-- the changes are done one after another up to one that failed, which is among them, and none after it
 abbrev pub AreBegun : List Change → Option (List Entry) → Option (List Entry) → Type 0
-AreBegun [] old new = new ≡ old
+AreBegun [] old new = ⊥
 AreBegun (change ∷ changes) old new = LeftBy change old new ⊎ ((next : Option (List Entry)) × DoneBy change old next × AreBegun changes next new)
 
 -- all changes are done

@@ -8,7 +8,8 @@ use le_fields::Bytes;
 use std::alloc::{AllocError, Global};
 use told::Failing;
 
-/// A folder in memory, which tells its entries. It fails at the listings and reads of the numbers that it is given.
+/// A folder in memory, which tells its entries. It fails at the calls of the numbers that it is given; a write that fails so
+/// leaves the first half of its bytes.
 #[derive(Drop)]
 pub struct MemFolder {
     entries: Entries,

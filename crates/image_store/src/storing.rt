@@ -38,8 +38,8 @@ enum Standing {
 /// files that are new or have other bytes are written, in rising order of their paths' bytes. What wasn't loaded isn't
 /// touched. A fault leaves what was done before it, and of a write that failed the old file or a beginning of the new bytes.
 ///
-/// Its cost is in the bytes of the files and paths, and for each name of a path a look-up in a directory; sorting costs the
-/// bytes of the paths, times the logarithm of their number.
+/// Its cost is in the bytes of the files and paths, for each name of a path a look-up in a directory, and one call of the
+/// folder for each change; sorting costs the bytes of the paths, times the logarithm of their number.
 pub fn write_back<F: Folder>(
     alloc: Global,
     folder: &mut F,

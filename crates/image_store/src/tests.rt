@@ -457,13 +457,27 @@ fn called(alloc: Global, call: Call, path: &str, fails: bool) -> Result<String, 
         ("g", Kind::File, "q"),
     ];
     let mut folder = folder_of(alloc, &rows, failing)?;
-    let answer = match answer_of(alloc, &mut folder, call, path) {
+    called_on(alloc, &mut folder, call, path)
+}
+
+fn called_on(
+    alloc: Global,
+    folder: &mut MemFolder,
+    call: Call,
+    path: &str,
+) -> Result<String, AllocError> {
+    let answer = match answer_of(alloc, folder, call, path) {
         Ok(()) => "done",
         Err(FolderError::Failed) => "failed",
         Err(FolderError::Memory) => "memory",
     };
+    left(alloc, answer, folder)
+}
+
+/// An answer, and what a folder holds after it.
+fn left(alloc: Global, answer: &str, folder: &mut MemFolder) -> Result<String, AllocError> {
     let mut text = String::from_str(alloc, answer)?;
-    text.push_str(text_of(alloc, &mut folder)?.as_str())?;
+    text.push_str(text_of(alloc, folder)?.as_str())?;
     Ok(text)
 }
 
@@ -563,20 +577,26 @@ fn written_back(alloc: Global, failing: FailingCalls) -> Result<String, AllocErr
         ("rv-p", Kind::File, "own"),
     ];
     let mut folder = folder_of(alloc, &rows, failing)?;
-    let before = match load_tree(alloc, &mut folder) {
-        Ok(loaded) => loaded,
+    let answer = match load_tree(alloc, &mut folder) {
+        Ok(loaded) => stored(alloc, &mut folder, &loaded)?,
         Err(_) => return Err(AllocError),
     };
+    left(alloc, answer, &mut folder)
+}
+
+/// How writing the changed tree back ends.
+fn stored(
+    alloc: Global,
+    folder: &mut MemFolder,
+    before: &Loaded,
+) -> Result<&'static str, AllocError> {
     let mut after = before.tree.copy()?;
     change(alloc, &mut after)?;
-    let answer = match write_back(alloc, &mut folder, &before, &after) {
+    Ok(match write_back(alloc, folder, before, &after) {
         Ok(()) => "done",
         Err(StoreFault::WriteFault) => "fault",
         Err(StoreFault::Memory) => "memory",
-    };
-    let mut text = String::from_str(alloc, answer)?;
-    text.push_str(text_of(alloc, &mut folder)?.as_str())?;
-    Ok(text)
+    })
 }
 
 /// The failing calls of one kind: the call of this number.

@@ -1,5 +1,5 @@
 -- A file has no names.
-use Rattle.std.proofs.Common.{◌≡◌, ◌∙◌, rules}
+use Rattle.std.proofs.Common.{◌≡◌, ◌∙◌}
 use Rattle.image_store.proofs.AllPathFacts.{file_pushed}
 use Rattle.image_store.proofs.all_paths.push_below.Goals as goal
 
