@@ -1,213 +1,205 @@
--- Which of the first three words is the first wrong one, and what follows from those behind them.
-use Rattle.std.proofs.Common.{◌≡◌, ◌↔◌, true, ℕ, ◌+◌, List, [], ◌∷◌, ◌++◌, Option, Some, None, drop, slice_get, refl, sym, ap, ◌∙◌, subst, append-nil, arith}
-use Rattle.cli_words.specs.Words.{solo, is_value, is_path}
-use Rattle.cli_words.specs.Command.{Command, IsSpelled, Asked, IsAsked, guest_words, guest_args, choices_words, budget_of}
+-- Which of the words in front is the first wrong one, and what is asked for.
+use Rattle.std.proofs.Common.{◌≡◌, ◌↔◌, ◌⊎◌, inl, inr, true, ℕ, ◌+◌, List, [], ◌∷◌, ◌++◌, Option, Some, None, drop, refl, sym, ap, ◌∙◌, subst, arith}
+use Rattle.std.specs.Option.{option_to_list}
+use Rattle.cli_words.specs.declared.order.Plan.{Plan}
+use Rattle.cli_words.specs.declared.tail.Options.{Options}
+use Rattle.cli_words.specs.Words.{solo, asm, is_value, is_file, is_name}
+use Rattle.cli_words.specs.Answer.{plan_asked}
+use Rattle.cli_words.specs.Command.{Command, IsSpelled, Asked, IsAsked, asked_by, Assembly, IsAsmAsked, guest_words, guest_args, choices_words, budget_of, input_of}
 use Rattle.cli_words.specs.FirstWrong.{IsFirstWrongOf, IsAccepted, IsFirstWrong}
-use Rattle.cli_words.specs.Front.{HasFront}
-use Rattle.cli_words.specs.Tail.{IsTail, IsAcceptedTail, Gathered, gathered, Gathers, IsReadTo, IsEnd}
-use Rattle.cli_words.proofs.WrongFacts.{behind, behind_two, at_index, of_words}
+use Rattle.cli_words.specs.Tail.{IsAcceptedTail, IsReadBy, IsEnd}
+use Rattle.cli_words.proofs.WrongFacts.{behind_front, at_index, of_same, here_wrong, IsNone}
 use Rattle.cli_words.proofs.TailFacts.{same_choices}
-use Rattle.cli_words.proofs.ReadFacts.{all_gathered}
+use Rattle.cli_words.proofs.ReadFacts.{in_two}
 
--- ---- words that are accepted: a folder `f`, a program `p`
+-- ---- words that are accepted
 
 plain : List ℕ → List ℕ → Command
 plain folder program = record { folder = folder; program = program; choices = []; guest = None }
 
-plain_accepted : (folder program : List ℕ) → is_value folder ≡ true → is_value program ≡ true → is_path program ≡ true → IsAccepted (solo ∷ folder ∷ program ∷ [])
+solo_accepted : (folder program : List ℕ) → is_value folder ≡ true → is_file program ≡ true → IsAccepted (solo ∷ folder ∷ program ∷ [])
 unfolding plain
-plain_accepted folder program folder_value program_value program_path = (
+solo_accepted folder program folder_value program_file = inl (
   plain folder program,
   record {
     form = refl;
     folder_value = folder_value;
-    program_value = program_value;
-    program_path = program_path;
+    program_file = program_file;
     lawful = tt;
-    one_budget = omega arith;
-    few_entries = omega arith;
+    few = record { one_budget = omega arith; few_entries = omega arith; one_input = omega arith; one_keep = omega arith };
   },
 )
 
--- ---- the refusals
+asm_accepted : (folder source out : List ℕ) → is_value folder ≡ true → is_file source ≡ true → is_name out ≡ true → IsAccepted (asm ∷ folder ∷ source ∷ out ∷ [])
+asm_accepted folder source out folder_value source_file out_name = inr (
+  record { folder = folder; source = source; out = out },
+  record { form = refl; folder_value = folder_value; source_file = source_file; out_name = out_name },
+)
 
-pub wrong_command : (words : List (List ℕ)) → ((command : List ℕ) → slice_get words 0 ≡ Some command → command ≡ solo → ⊥) → IsFirstWrong words 0
-wrong_command [] wrong = record {
-  within = omega arith;
-  before = (solo ∷ (102 ∷ []) ∷ (112 ∷ []) ∷ [], plain_accepted (102 ∷ []) (112 ∷ []) refl refl refl);
-  wrong = λ few rest accepted. absurd (omega arith);
-  missing = λ all accepted. let form = accepted.1.form in cc;
-}
-wrong_command (command ∷ words) wrong = record {
-  within = omega arith;
-  before = (solo ∷ (102 ∷ []) ∷ (112 ∷ []) ∷ [], plain_accepted (102 ∷ []) (112 ∷ []) refl refl refl);
-  wrong = λ few rest accepted. let form = accepted.1.form in wrong command refl (cc);
-  missing = λ all accepted. absurd (omega arith);
-}
+-- ---- the command
 
--- a language behind the command
-behind_solo : (words : List (List ℕ)) (index : ℕ) → IsFirstWrongOf (λ (rest : List (List ℕ)). IsAccepted (solo ∷ rest)) words index → IsFirstWrong (solo ∷ words) (index + 1)
-behind_solo words index first = behind IsAccepted (λ (rest : List (List ℕ)). IsAccepted (solo ∷ rest)) solo words index (λ rest. ((λ h. h), λ h. h)) first
+-- a word that is a command
+abbrev pub IsCommand : List ℕ → Type 0
+IsCommand word = (word ≡ solo) ⊎ (word ≡ asm)
 
-folder_behind : (words : List (List ℕ)) → ((folder : List ℕ) → slice_get words 0 ≡ Some folder → is_value folder ≡ true → ⊥) → IsFirstWrongOf (λ (rest : List (List ℕ)). IsAccepted (solo ∷ rest)) words 0
-folder_behind [] wrong = record {
-  within = omega arith;
-  before = ((102 ∷ []) ∷ (112 ∷ []) ∷ [], plain_accepted (102 ∷ []) (112 ∷ []) refl refl refl);
-  wrong = λ few rest accepted. absurd (omega arith);
-  missing = λ all accepted. let form = accepted.1.form in cc;
-}
-folder_behind (folder ∷ words) wrong = record {
-  within = omega arith;
-  before = ((102 ∷ []) ∷ (112 ∷ []) ∷ [], plain_accepted (102 ∷ []) (112 ∷ []) refl refl refl);
-  wrong = λ few rest accepted.
-      let form = accepted.1.form in
-      let same : folder ≡ accepted.0.folder = cc in
-      wrong folder refl (rw same accepted.1.folder_value);
-  missing = λ all accepted. absurd (omega arith);
-}
+none_accepted : IsAccepted [] → ⊥
+none_accepted (inl (command, spelled)) = let form = spelled.form in cc
+none_accepted (inr (assembly, asked)) = let form = asked.form in cc
 
-pub wrong_folder : (words : List (List ℕ)) → slice_get words 0 ≡ Some solo → ((folder : List ℕ) → slice_get words 1 ≡ Some folder → is_value folder ≡ true → ⊥) → IsFirstWrong words 1
-wrong_folder [] first wrong = cc
-wrong_folder (command ∷ words) first wrong =
-    let same : solo ≡ command = cc in
-    of_words IsAccepted (solo ∷ words) (command ∷ words) 1 (ap (λ (w : List ℕ). w ∷ words) same)
-    (behind_solo words 0 (folder_behind words wrong))
+begins : (word : List ℕ) (more : List (List ℕ)) → IsAccepted (word ∷ more) → IsCommand word
+begins word more (inl (command, spelled)) = let form = spelled.form in inl (cc)
+begins word more (inr (assembly, asked)) = let form = asked.form in inr (cc)
 
-program_behind : (folder : List ℕ) (words : List (List ℕ)) → is_value folder ≡ true → ((program : List ℕ) → slice_get words 0 ≡ Some program → is_value program ≡ true → is_path program ≡ true → ⊥) → IsFirstWrongOf (λ (rest : List (List ℕ)). IsAccepted (solo ∷ folder ∷ rest)) words 0
-program_behind folder [] value wrong = record {
-  within = omega arith;
-  before = ((112 ∷ []) ∷ [], plain_accepted folder (112 ∷ []) value refl refl);
-  wrong = λ few rest accepted. absurd (omega arith);
-  missing = λ all accepted. let form = accepted.1.form in cc;
-}
-program_behind folder (program ∷ words) value wrong = record {
-  within = omega arith;
-  before = ((112 ∷ []) ∷ [], plain_accepted folder (112 ∷ []) value refl refl);
-  wrong = λ few rest accepted.
-      let form = accepted.1.form in
-      let same : program ≡ accepted.0.program = cc in
-      wrong program refl (rw same accepted.1.program_value) (rw same accepted.1.program_path);
-  missing = λ all accepted. absurd (omega arith);
-}
+pub wrong_command : (words : List (List ℕ)) → IsNone IsCommand words → IsFirstWrong words 0
+wrong_command words none =
+    here_wrong IsAccepted IsCommand words (solo ∷ (102 ∷ []) ∷ (112 ∷ []) ∷ []) (solo_accepted (102 ∷ []) (112 ∷ []) refl refl) none_accepted begins none
 
-pub wrong_program : (words : List (List ℕ)) (folder : List ℕ) → slice_get words 0 ≡ Some solo → slice_get words 1 ≡ Some folder → is_value folder ≡ true → ((program : List ℕ) → slice_get words 2 ≡ Some program → is_value program ≡ true → is_path program ≡ true → ⊥) → IsFirstWrong words 2
-wrong_program [] folder first second value wrong = cc
-wrong_program (command ∷ []) folder first second value wrong = cc
-wrong_program (command ∷ other ∷ words) folder first second value wrong =
-    let same : solo ≡ command = cc in
-    let equal : folder ≡ other = cc in
-    let both : solo ∷ folder ∷ words ≡ command ∷ other ∷ words = cc in
-    of_words IsAccepted (solo ∷ folder ∷ words) (command ∷ other ∷ words) 2 both
-    (behind_two IsAccepted (λ (rest : List (List ℕ)). IsAccepted (solo ∷ folder ∷ rest)) solo folder words 0 (λ rest. ((λ h. h), λ h. h))
-    (program_behind folder words value wrong))
+pub no_command : (words : List (List ℕ)) (word : List ℕ) (rest : List (List ℕ)) → words ≡ word ∷ rest → (word ≡ solo → ⊥) → (word ≡ asm → ⊥) → IsNone IsCommand words
+no_command words word rest is not_solo not_asm other more form (inl same) = not_solo (cc)
+no_command words word rest is not_solo not_asm other more form (inr same) = not_asm (cc)
 
--- ---- behind a lawful front
+solo_only : (rest : List (List ℕ)) → IsAccepted (solo ∷ rest) → (command : Command) × IsSpelled (solo ∷ rest) command
+solo_only rest (inl is) = is
+solo_only rest (inr (assembly, asked)) = let form = asked.form in cc
 
-front_accepted : (folder program : List ℕ) (rest : List (List ℕ)) → is_value folder ≡ true → is_value program ≡ true → is_path program ≡ true → IsAccepted (solo ∷ folder ∷ program ∷ rest) ↔ IsAcceptedTail [] [] rest
-front_accepted folder program rest folder_value program_value program_path = (
+asm_only : (rest : List (List ℕ)) → IsAccepted (asm ∷ rest) → (assembly : Assembly) × IsAsmAsked (asm ∷ rest) assembly
+asm_only rest (inl (command, spelled)) = let form = spelled.form in cc
+asm_only rest (inr is) = is
+
+-- ---- behind `solo`
+
+abbrev pub IsValue : List ℕ → Type 0
+IsValue word = is_value word ≡ true
+
+abbrev pub IsFile : List ℕ → Type 0
+IsFile word = is_file word ≡ true
+
+abbrev pub IsName : List ℕ → Type 0
+IsName word = is_name word ≡ true
+
+pub solo_folder : (words : List (List ℕ)) → IsNone IsValue words → IsFirstWrong (solo ∷ words) 1
+solo_folder words none =
+    behind_front IsAccepted (solo ∷ []) words 0
+    (here_wrong (λ (rest : List (List ℕ)). IsAccepted (solo ∷ rest)) IsValue words ((102 ∷ []) ∷ (112 ∷ []) ∷ []) (solo_accepted (102 ∷ []) (112 ∷ []) refl refl)
+    (λ accepted. let is = solo_only [] accepted in let form = is.1.form in cc)
+    (λ word more accepted.
+    let is = solo_only (word ∷ more) accepted in
+    let form = is.1.form in
+    let same : word ≡ is.0.folder = cc in
+    rw same is.1.folder_value) none)
+
+pub solo_program : (folder : List ℕ) (words : List (List ℕ)) → is_value folder ≡ true → IsNone IsFile words → IsFirstWrong (solo ∷ folder ∷ words) 2
+solo_program folder words value none =
+    behind_front IsAccepted (solo ∷ folder ∷ []) words 0
+    (here_wrong (λ (rest : List (List ℕ)). IsAccepted (solo ∷ folder ∷ rest)) IsFile words ((112 ∷ []) ∷ []) (solo_accepted folder (112 ∷ []) value refl)
+    (λ accepted. let is = solo_only (folder ∷ []) accepted in let form = is.1.form in cc)
+    (λ word more accepted.
+    let is = solo_only (folder ∷ word ∷ more) accepted in
+    let form = is.1.form in
+    let same : word ≡ is.0.program = cc in
+    rw same is.1.program_file) none)
+
+front_accepted : (folder program : List ℕ) (rest : List (List ℕ)) → is_value folder ≡ true → is_file program ≡ true → IsAccepted (solo ∷ folder ∷ program ∷ rest) ↔ IsAcceptedTail rest
+front_accepted folder program rest value file = (
   λ accepted.
-      let spelled = accepted.1 in
-      let form = spelled.form in
-      (accepted.0.choices, accepted.0.guest, record { form = cc; lawful = spelled.lawful; one_budget = spelled.one_budget; few_entries = spelled.few_entries }),
+      let is = solo_only (folder ∷ program ∷ rest) accepted in
+      let form = is.1.form in
+      (is.0.choices, is.0.guest, record { form = cc; lawful = is.1.lawful; few = is.1.few }),
   λ accepted.
       let tail = accepted.2 in
-      let form = tail.form in (
+      let form = tail.form in
+      inl (
         record { folder = folder; program = program; choices = accepted.0; guest = accepted.1 },
-        record {
-          form = cc;
-          folder_value = folder_value;
-          program_value = program_value;
-          program_path = program_path;
-          lawful = tail.lawful;
-          one_budget = tail.one_budget;
-          few_entries = tail.few_entries;
-        },
+        record { form = cc; folder_value = value; program_file = file; lawful = tail.lawful; few = tail.few },
       ),
 )
 
-pub wrong_tail : (words : List (List ℕ)) (folder program : List ℕ) (index : ℕ) → HasFront words folder program → IsFirstWrongOf (IsAcceptedTail [] []) (drop 3 words) index → IsFirstWrong words (index + 3)
-wrong_tail words folder program index front first =
-    let rest = drop 3 words in
-    let inner = behind (λ (more : List (List ℕ)). IsAccepted (solo ∷ folder ∷ more)) (IsAcceptedTail [] []) program rest index (λ more. front_accepted folder program more front.folder_value front.program_value front.program_path) first in
-    let outer = behind_two IsAccepted (λ (more : List (List ℕ)). IsAccepted (solo ∷ folder ∷ more)) solo folder (program ∷ rest) (index + 1) (λ more. ((λ h. h), λ h. h)) inner in
-    at_index IsAccepted words (index + 1 + 2) (index + 3) (omega arith)
-    (of_words IsAccepted (solo ∷ folder ∷ program ∷ rest) words (index + 1 + 2) (sym front.form) outer)
+pub solo_tail : (folder program : List ℕ) (words : List (List ℕ)) (index : ℕ) → is_value folder ≡ true → is_file program ≡ true → IsFirstWrongOf IsAcceptedTail words index → IsFirstWrong (solo ∷ folder ∷ program ∷ words) (index + 3)
+solo_tail folder program words index value file first =
+    at_index IsAccepted (solo ∷ folder ∷ program ∷ words) (3 + index) (index + 3) (omega arith)
+    (behind_front IsAccepted (solo ∷ folder ∷ program ∷ []) words index
+    (of_same (λ (rest : List (List ℕ)). IsAccepted (solo ∷ folder ∷ program ∷ rest)) IsAcceptedTail words index (λ rest. front_accepted folder program rest value file) first))
 
 -- ---- what is asked for
-
-abbrev pub asked_from : List ℕ → List ℕ → Gathered → Asked
-asked_from folder program out = record { folder = folder; program = program; args = out.args; env = out.entries; budget = budget_of out.budgets }
-
-asked_behind : (words : List (List ℕ)) (folder program : List ℕ) → HasFront words folder program → (out : Gathered) → Gathers [] [] (drop 3 words) out → IsAsked words (asked_from folder program out)
-asked_behind words folder program front out gathers =
-    let tail = gathers.2 in
-    let form = tail.form in
-    let head = front.form in
-    let equal = gathers.3 in (
-      record { folder = folder; program = program; choices = gathers.0; guest = gathers.1 },
-      record {
-        form = cc;
-        folder_value = front.folder_value;
-        program_value = front.program_value;
-        program_path = front.program_path;
-        lawful = tail.lawful;
-        one_budget = tail.one_budget;
-        few_entries = tail.few_entries;
-      },
-      ap (asked_from folder program) equal,
-    )
-
-gathered_behind : (words : List (List ℕ)) (folder program : List ℕ) → HasFront words folder program → (asked : Asked) → IsAsked words asked → (out : Gathered) × Gathers [] [] (drop 3 words) out × (asked ≡ asked_from folder program out)
-gathered_behind words folder program front asked (command, spelled, equal) =
-    let head = front.form in
-    let form = spelled.form in
-    let same_folder : command.folder ≡ folder = cc in
-    let same_program : command.program ≡ program = cc in
-    let out = gathered [] [] command.choices command.guest in (
-      out,
-      (command.choices, command.guest, record { form = cc; lawful = spelled.lawful; one_budget = spelled.one_budget; few_entries = spelled.few_entries }, refl),
-      equal ∙ ap (λ (f : List ℕ). asked_from f command.program out) same_folder ∙ ap (λ (p : List ℕ). asked_from folder p out) same_program,
-    )
 
 args_behind : (words : List (List ℕ)) (last : Option (List (List ℕ))) → words ≡ guest_words last → drop 1 words ≡ guest_args last
 args_behind words None form = rw form refl
 args_behind words (Some args) form = rw form refl
 
--- what the plan holds
-abbrev pub asked_of : List ℕ → List ℕ → List ℕ → List (List ℕ) → List (List ℕ) → Asked
-asked_of folder program given put rest = record { folder = folder; program = program; args = drop 1 rest; env = put; budget = budget_of given }
+input_is : (input : Option (List ℕ)) → input ≡ input_of (option_to_list input)
+input_is None = refl
+input_is (Some name) = refl
 
-at_end : (folder program given : List ℕ) (put rest : List (List ℕ)) (last : Option (List (List ℕ))) → rest ≡ guest_words last → asked_from folder program (gathered given put [] last) ≡ asked_of folder program given put rest
-at_end folder program given put rest last form =
-    let args = args_behind rest last form in
-    let one : given ++ [] ≡ given = append-nil given in
-    let two : put ++ [] ≡ put = append-nil put in
-    rw (args, one, two) refl
+same_asked : (one other : Asked) → one.folder ≡ other.folder → one.program ≡ other.program → one.args ≡ other.args → one.env ≡ other.env → one.budget ≡ other.budget → one.input ≡ other.input → one.keep ≡ other.keep → one ≡ other
+same_asked one other folder program args env budget input keep =
+    λ i. record { folder = folder i; program = program i; args = args i; env = env i; budget = budget i; input = input i; keep = keep i }
 
-pub is_asked : (words : List (List ℕ)) (folder program : List ℕ) (place : ℕ) (given : List ℕ) (put : List (List ℕ)) → HasFront words folder program → IsReadTo (drop 3 words) place given put → IsEnd (drop place (drop 3 words)) → IsAsked words (asked_of folder program given put (drop place (drop 3 words)))
-is_asked words folder program place given put front read (last, form) =
-    let rest = drop place (drop 3 words) in
-    let out = gathered given put [] last in
-    let gathers = (all_gathered (drop 3 words) place given put read last form out).1 refl in
-    let family : Asked → Type 0 = λ asked. IsAsked words asked in
-    subst family (at_end folder program given put rest last form) (asked_behind words folder program front out gathers)
+pub solo_asked : (folder program : List ℕ) (words : List (List ℕ)) (options : Options) (plan : Plan) → is_value folder ≡ true → is_file program ≡ true → IsReadBy words options → IsEnd (drop options.place words) → plan.folder ≡ folder → plan.program ≡ program → plan.args.items ≡ drop 1 (drop options.place words) → plan.env.items ≡ options.env.items → plan.budget ≡ budget_of (option_to_list options.budget) → plan.input ≡ options.input → plan.keep ≡ options.keep → IsAsked (solo ∷ folder ∷ program ∷ words) (plan_asked plan)
+solo_asked folder program words options plan value file read (last, end) folder_is program_is args env budget input keep =
+    let holds = read.holds in
+    let choices = read.choices in
+    let form : words ≡ choices_words choices ++ guest_words last = in_two words options read ∙ ap (λ (ws : List (List ℕ)). choices_words choices ++ ws) end in
+    let command : Command = record { folder = folder; program = program; choices = choices; guest = last } in (
+      command,
+      record {
+        form = ap (λ (ws : List (List ℕ)). solo ∷ folder ∷ program ∷ ws) form;
+        folder_value = value;
+        program_file = file;
+        lawful = holds.lawful;
+        few = holds.few;
+      },
+      same_asked (plan_asked plan) (asked_by command) folder_is program_is
+          (args ∙ args_behind (drop options.place words) last end) (env ∙ holds.env)
+          (budget ∙ ap budget_of holds.budget)
+          (input ∙ input_is options.input ∙ ap input_of holds.input)
+          (keep ∙ holds.keep),
+    )
 
-pub only_asked : (words : List (List ℕ)) (folder program : List ℕ) (place : ℕ) (given : List ℕ) (put : List (List ℕ)) → HasFront words folder program → IsReadTo (drop 3 words) place given put → IsEnd (drop place (drop 3 words)) → (asked : Asked) → IsAsked words asked → asked ≡ asked_of folder program given put (drop place (drop 3 words))
-only_asked words folder program place given put front read (last, form) asked is =
-    let rest = drop place (drop 3 words) in
-    let found = gathered_behind words folder program front asked is in
-    let same = (all_gathered (drop 3 words) place given put read last form found.0).0 found.1 in
-    found.2 ∙ ap (asked_from folder program) same ∙ at_end folder program given put rest last form
+-- ---- behind `asm`
 
--- ---- of a comparison
+pub asm_folder : (words : List (List ℕ)) → IsNone IsValue words → IsFirstWrong (asm ∷ words) 1
+asm_folder words none =
+    behind_front IsAccepted (asm ∷ []) words 0
+    (here_wrong (λ (rest : List (List ℕ)). IsAccepted (asm ∷ rest)) IsValue words ((102 ∷ []) ∷ (115 ∷ []) ∷ (111 ∷ []) ∷ []) (asm_accepted (102 ∷ []) (115 ∷ []) (111 ∷ []) refl refl refl)
+    (λ accepted. let is = asm_only [] accepted in let form = is.1.form in cc)
+    (λ word more accepted.
+    let is = asm_only (word ∷ more) accepted in
+    let form = is.1.form in
+    let same : word ≡ is.0.folder = cc in
+    rw same is.1.folder_value) none)
 
-pub first_is_solo : (words : List (List ℕ)) (command : List ℕ) → slice_get words 0 ≡ Some command → command ≡ solo → slice_get words 0 ≡ Some solo
-first_is_solo words command is same = cc
+pub asm_source : (folder : List ℕ) (words : List (List ℕ)) → is_value folder ≡ true → IsNone IsFile words → IsFirstWrong (asm ∷ folder ∷ words) 2
+asm_source folder words value none =
+    behind_front IsAccepted (asm ∷ folder ∷ []) words 0
+    (here_wrong (λ (rest : List (List ℕ)). IsAccepted (asm ∷ folder ∷ rest)) IsFile words ((115 ∷ []) ∷ (111 ∷ []) ∷ []) (asm_accepted folder (115 ∷ []) (111 ∷ []) value refl refl)
+    (λ accepted. let is = asm_only (folder ∷ []) accepted in let form = is.1.form in cc)
+    (λ word more accepted.
+    let is = asm_only (folder ∷ word ∷ more) accepted in
+    let form = is.1.form in
+    let same : word ≡ is.0.source = cc in
+    rw same is.1.source_file) none)
 
--- ---- of a plan's parts
+pub asm_out : (folder source : List ℕ) (words : List (List ℕ)) → is_value folder ≡ true → is_file source ≡ true → IsNone IsName words → IsFirstWrong (asm ∷ folder ∷ source ∷ words) 3
+asm_out folder source words value file none =
+    behind_front IsAccepted (asm ∷ folder ∷ source ∷ []) words 0
+    (here_wrong (λ (rest : List (List ℕ)). IsAccepted (asm ∷ folder ∷ source ∷ rest)) IsName words ((111 ∷ []) ∷ []) (asm_accepted folder source (111 ∷ []) value file refl)
+    (λ accepted. let is = asm_only (folder ∷ source ∷ []) accepted in let form = is.1.form in cc)
+    (λ word more accepted.
+    let is = asm_only (folder ∷ source ∷ word ∷ more) accepted in
+    let form = is.1.form in
+    let same : word ≡ is.0.out = cc in
+    rw same is.1.out_name) none)
 
-pub same_asked : (one other : Asked) → one.folder ≡ other.folder → one.program ≡ other.program → one.args ≡ other.args → one.env ≡ other.env → one.budget ≡ other.budget → one ≡ other
-same_asked one other folder program args env budget = λ i. record { folder = folder i; program = program i; args = args i; env = env i; budget = budget i }
+-- a word too many
+pub asm_more : (folder source out more : List ℕ) (words : List (List ℕ)) → is_value folder ≡ true → is_file source ≡ true → is_name out ≡ true → IsFirstWrong (asm ∷ folder ∷ source ∷ out ∷ more ∷ words) 4
+asm_more folder source out more words value file name =
+    behind_front IsAccepted (asm ∷ folder ∷ source ∷ out ∷ []) (more ∷ words) 0
+    (record {
+      within = omega arith;
+      before = ([], asm_accepted folder source out value file name);
+      wrong = λ inside rest accepted. let is = asm_only (folder ∷ source ∷ out ∷ more ∷ rest) accepted in let form = is.1.form in cc;
+      missing = λ all accepted. absurd (omega arith);
+    })
 
 -- ---- words spell one command
 
@@ -218,7 +210,43 @@ same_command words one other first second =
     let rest : choices_words one.choices ++ guest_words one.guest ≡ choices_words other.choices ++ guest_words other.guest = cc in
     let folder : one.folder ≡ other.folder = cc in
     let program : one.program ≡ other.program = cc in
-    let tail : IsTail [] [] (choices_words other.choices ++ guest_words other.guest) other.choices other.guest =
-    record { form = refl; lawful = second.lawful; one_budget = second.one_budget; few_entries = second.few_entries } in
-    let same = same_choices [] [] (choices_words other.choices ++ guest_words other.guest) one.choices one.guest other.choices other.guest (sym rest) first.lawful tail in
+    let same = same_choices one.choices other.choices one.guest other.guest rest first.lawful second.lawful in
     λ i. record { folder = folder i; program = program i; choices = same.0 i; guest = same.1 i }
+
+pub same_assembly : (words : List (List ℕ)) (one other : Assembly) → IsAsmAsked words one → IsAsmAsked words other → one ≡ other
+same_assembly words one other first second =
+    let form = first.form in
+    let again = second.form in
+    let folder : one.folder ≡ other.folder = cc in
+    let source : one.source ≡ other.source = cc in
+    let out : one.out ≡ other.out = cc in
+    λ i. record { folder = folder i; source = source i; out = out i }
+
+pub never_both : (words : List (List ℕ)) (command : Command) (assembly : Assembly) → IsSpelled words command → IsAsmAsked words assembly → ⊥
+never_both words command assembly spelled asked =
+    let form = spelled.form in
+    let again = asked.form in
+    cc
+
+-- and ask for one thing, and for nothing else
+only_asked : (words : List (List ℕ)) (one other : Asked) → IsAsked words one → IsAsked words other → other ≡ one
+only_asked words one other first second =
+    second.2 ∙ ap asked_by (same_command words second.0 first.0 second.1 first.1) ∙ sym first.2
+
+pub only_solo : (words : List (List ℕ)) (word : List ℕ) (rest : List (List ℕ)) (asked : Asked) → words ≡ word ∷ rest → word ≡ solo → IsAsked (solo ∷ rest) asked → ((other : Asked) → IsAsked words other → other ≡ asked) × ((assembly : Assembly) → IsAsmAsked words assembly → ⊥)
+only_solo words word rest asked form same is =
+    let here : words ≡ solo ∷ rest = cc in (
+      λ other asks.
+          let family : List (List ℕ) → Type 0 = λ ws. IsAsked ws other in
+          only_asked (solo ∷ rest) asked other is (subst family here asks),
+      λ assembly asks. let again = asks.form in cc,
+    )
+
+pub only_asm : (words : List (List ℕ)) (word : List ℕ) (rest : List (List ℕ)) (assembly : Assembly) → words ≡ word ∷ rest → word ≡ asm → IsAsmAsked (asm ∷ rest) assembly → ((other : Assembly) → IsAsmAsked words other → other ≡ assembly) × ((asked : Asked) → IsAsked words asked → ⊥)
+only_asm words word rest assembly form same is =
+    let here : words ≡ asm ∷ rest = cc in (
+      λ other asks.
+          let family : List (List ℕ) → Type 0 = λ ws. IsAsmAsked ws other in
+          same_assembly (asm ∷ rest) other assembly (subst family here asks) is,
+      λ asked asks. let again = asks.1.form in cc,
+    )

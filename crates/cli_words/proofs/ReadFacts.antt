@@ -1,87 +1,106 @@
 -- One option more is read.
-use Rattle.std.proofs.Common.{◌≡◌, ◌↔◌, ℕ, ◌+◌, ◌-◌, ◌<◌, ◌≤◌, true, List, [], ◌∷◌, ◌++◌, length, take, drop, map, Option, sym, ap, ◌∙◌, subst, length-append, length-drop, arith}
-use Rattle.std.proofs.lemmas.List.{drop-drop, drop-map, take_all}
-use Rattle.std.specs.Fmt.{decimal}
-use Rattle.cli_words.specs.Words.{budget_name, env_name, is_entry}
-use Rattle.cli_words.specs.Command.{guest_words}
-use Rattle.cli_words.specs.Tail.{IsAcceptedTail, Gathered, gathered, Gathers, IsReadTo}
-use Rattle.cli_words.proofs.TailFacts.{budget_gathers, entry_gathers, budget_accepted, entry_accepted, end_gathers}
-use Rattle.cli_words.proofs.WrongFacts.{behind_two, at_index, of_words}
+use Rattle.std.proofs.Common.{◌≡◌, ℕ, zero, suc, ◌+◌, ◌-◌, ◌≤◌, Bool, true, false, ◌||◌, List, [], ◌∷◌, ◌++◌, length, take, drop, map, refl, sym, ap, ◌∙◌, append-nil, append_assoc, length-append, length-drop, arith}
+use Rattle.std.proofs.Math.Nat.{add-suc, add-zero}
+use Rattle.std.proofs.Math.Seq.{take-append_seam}
+use Rattle.std.proofs.lemmas.List.{drop-map, length-take-le, take-append-drop, take_all}
+use Rattle.std.specs.Option.{option_to_list}
+use Rattle.cli_words.specs.declared.tail.Options.{Options}
+use Rattle.cli_words.specs.Command.{Choice, Budget, Input, choice_words, choices_words, budgets, entries, inputs, keeps, is_given}
+use Rattle.cli_words.specs.FirstWrong.{IsFirstWrongOf}
+use Rattle.cli_words.specs.Tail.{IsAcceptedTail, Holds, IsReadBy, IsNext, IsWrongBehind}
+use Rattle.cli_words.proofs.WrongFacts.{behind_front, at_index, of_words}
+use Rattle.cli_words.proofs.TailFacts.{budgets_both, entries_both, inputs_both, keeps_both, words_both, lawful_both}
 
-option_read : (words : List (List ℕ)) (place : ℕ) (given later : List ℕ) (put more : List (List ℕ)) (one two : List ℕ) → IsReadTo words place given put → drop place words ≡ one ∷ two ∷ drop (place + 2) words → length later ≤ 1 → length more ≤ 64 → ((rest : List (List ℕ)) (out : Gathered) → Gathers given put (one ∷ two ∷ rest) out ↔ Gathers later more rest out) → ((rest : List (List ℕ)) → IsAcceptedTail given put (one ∷ two ∷ rest) ↔ IsAcceptedTail later more rest) → IsReadTo words (place + 2) later more
-option_read words place given later put more one two read form budgets entries gathers accepted = record {
-  within =
-      let size : length (drop place words) ≡ length words - place = length-drop place words in
-      let two_more : length (drop place words) ≡ length (one ∷ two ∷ drop (place + 2) words) = ap length form in
-      let rest : length (one ∷ two ∷ drop (place + 2) words) ≡ length (drop (place + 2) words) + 2 = omega arith in
-      omega arith;
-  one_budget = budgets;
-  few_entries = entries;
-  gathers = λ out.
-      let family : List (List ℕ) → Type 0 = λ ws. Gathers given put ws out in (
-        λ all. (gathers (drop (place + 2) words) out).0 (subst family form ((read.gathers out).0 all)),
-        λ last. (read.gathers out).1 (subst family (sym form) ((gathers (drop (place + 2) words) out).1 last)),
-      );
-  wrong = λ index first.
-      let here = behind_two (IsAcceptedTail given put) (IsAcceptedTail later more) one two (drop (place + 2) words) index accepted first in
-      at_index (IsAcceptedTail [] []) words (place + (index + 2)) (place + 2 + index) (omega arith)
-      (read.wrong (index + 2) (of_words (IsAcceptedTail given put) (one ∷ two ∷ drop (place + 2) words) (drop place words) (index + 2) (sym form) here));
+-- the words are the choices, and those behind the place
+pub in_two : (words : List (List ℕ)) (options : Options) → (read : IsReadBy words options) → words ≡ choices_words read.choices ++ drop options.place words
+in_two words options read = sym (take-append-drop options.place words) ∙ ap (λ (ws : List (List ℕ)). ws ++ drop options.place words) read.front
+
+place_is : (words : List (List ℕ)) (options : Options) → (read : IsReadBy words options) → length (choices_words read.choices) ≡ options.place
+place_is words options read = ap length (sym read.front) ∙ length-take-le options.place words read.within
+
+-- what options hold once they hold a choice more
+pub record Takes (before after : Options) (choice : Choice) : Type 0 where
+  pub place : after.place ≡ before.place + length (choice_words choice)
+  pub budget : option_to_list after.budget ≡ option_to_list before.budget ++ budgets (choice ∷ [])
+  pub env : after.env.items ≡ before.env.items ++ entries (choice ∷ [])
+  pub input : option_to_list after.input ≡ option_to_list before.input ++ inputs (choice ∷ [])
+  pub keep : after.keep ≡ (before.keep || is_given (keeps (choice ∷ [])))
+
+pub or_true : (b : Bool) → (b || true) ≡ true
+or_true true = refl
+or_true false = refl
+
+pub or_false : (b : Bool) → (b || false) ≡ b
+or_false true = refl
+or_false false = refl
+
+given_both : (one other : ℕ) → is_given (one + other) ≡ (is_given one || is_given other)
+given_both one zero = ap is_given (add-zero one) ∙ sym (or_false (is_given one))
+given_both one (suc other) = ap is_given (add-suc one other) ∙ sym (or_true (is_given one))
+
+takes_holds : (before after : Options) (choices : List Choice) (words : List (List ℕ)) (choice : Choice) → Holds before choices → IsNext before words choice → Takes before after choice → Holds after (choices ++ choice ∷ [])
+takes_holds before after choices words choice holds next takes = record {
+  lawful = lawful_both choices (choice ∷ []) holds.lawful (next.lawful, tt);
+  few = next.few choices holds;
+  budget = takes.budget ∙ ap (λ (bs : List ℕ). bs ++ budgets (choice ∷ [])) holds.budget ∙ sym (budgets_both choices (choice ∷ []));
+  env = takes.env ∙ ap (λ (es : List (List ℕ)). es ++ entries (choice ∷ [])) holds.env ∙ sym (entries_both choices (choice ∷ []));
+  input = takes.input ∙ ap (λ (names : List (List ℕ)). names ++ inputs (choice ∷ [])) holds.input ∙ sym (inputs_both choices (choice ∷ []));
+  keep =
+      takes.keep
+      ∙ ap (λ (b : Bool). b || is_given (keeps (choice ∷ []))) holds.keep
+      ∙ sym (given_both (keeps choices) (keeps (choice ∷ [])))
+      ∙ ap is_given (sym (keeps_both choices (choice ∷ [])));
 }
 
-two_behind : (words : List (List ℕ)) (place : ℕ) (one two : List ℕ) → drop place words ≡ one ∷ two ∷ drop 2 (drop place words) → drop place words ≡ one ∷ two ∷ drop (place + 2) words
-two_behind words place one two form = form ∙ ap (λ (ws : List (List ℕ)). one ∷ two ∷ ws) (drop-drop 2 place words)
+pub read_on : (words : List (List ℕ)) (before after : Options) (choice : Choice) → IsReadBy words before → IsNext before (drop before.place words) choice → Takes before after choice → IsReadBy words after
+read_on words before after choice read next takes =
+    let front = choices_words read.choices in
+    let more = choice_words choice in
+    let behind = drop (length more) (drop before.place words) in
+    let form : words ≡ (front ++ more) ++ behind = in_two words before read ∙ ap (λ (ws : List (List ℕ)). front ++ ws) next.form ∙ sym (append_assoc front more behind) in
+    let size : length (front ++ more) ≡ after.place =
+    length-append front more ∙ ap (λ (n : ℕ). n + length more) (place_is words before read) ∙ sym takes.place in
+    let all : length words ≡ length (front ++ more) + length behind = ap length form ∙ length-append (front ++ more) behind in
+    let taken : take after.place words ≡ front ++ more =
+    ap (λ (n : ℕ). take n words) (sym size) ∙ ap (take (length (front ++ more))) form ∙ take-append_seam (front ++ more) behind in
+    let spelled : front ++ more ≡ choices_words (read.choices ++ choice ∷ []) =
+    ap (λ (ws : List (List ℕ)). front ++ ws) (sym (append-nil more)) ∙ sym (words_both read.choices (choice ∷ [])) in
+    record {
+      within = omega arith;
+      choices = read.choices ++ choice ∷ [];
+      front = taken ∙ spelled;
+      holds = takes_holds before after read.choices (drop before.place words) choice read.holds next takes;
+    }
 
-pub budget_read : (words : List (List ℕ)) (place : ℕ) (given : List ℕ) (put : List (List ℕ)) (budget : ℕ) → IsReadTo words place given put → (drop place words ≡ budget_name ∷ decimal budget ∷ drop 2 (drop place words)) × (budget ≤ 33554432) × (given ≡ []) → IsReadTo words (place + 2) (budget ∷ []) put
-budget_read words place given put budget read (form, small, none) =
-    let family : List ℕ → Type 0 = λ bs. IsReadTo words place bs put in
-    option_read words place [] (budget ∷ []) put put budget_name (decimal budget) (subst family none read)
-    (two_behind words place budget_name (decimal budget) form) (omega arith) read.few_entries
-    (λ rest out. budget_gathers [] put rest budget small out)
-    (λ rest. budget_accepted [] put rest budget small)
+-- a budget may be added only where there is none
+no_items : {A : Type 0} → (items : List A) → length items ≡ 0 → items ≡ []
+no_items [] none = refl
+no_items (item ∷ items) none = absurd (omega arith)
 
-pub entry_read : (words : List (List ℕ)) (place : ℕ) (given : List ℕ) (put : List (List ℕ)) (entry : List ℕ) → IsReadTo words place given put → (drop place words ≡ env_name ∷ entry ∷ drop 2 (drop place words)) × (is_entry entry ≡ true) × (length put < 64) → IsReadTo words (place + 2) given (put ++ entry ∷ [])
-entry_read words place given put entry read (form, good, few) =
-    option_read words place given given put (put ++ entry ∷ []) env_name entry read
-    (two_behind words place env_name entry form) read.one_budget (simp length-append (omega arith))
-    (λ rest out. entry_gathers given put rest entry good out)
-    (λ rest. entry_accepted given put rest entry good)
+pub no_budget : (words : List (List ℕ)) (options : Options) (budget : ℕ) → IsReadBy words options → IsNext options (drop options.place words) (Budget budget) → option_to_list options.budget ≡ []
+no_budget words options budget read next =
+    let few = next.few read.choices read.holds in
+    let most = few.one_budget in
+    let parts = ap length (budgets_both read.choices (Budget budget ∷ [])) ∙ length-append (budgets read.choices) (budget ∷ []) in
+    let one : length (budget ∷ []) ≡ 1 = refl in
+    read.holds.budget ∙ no_items (budgets read.choices) (omega arith)
 
--- before any is
-pub none_read : (words : List (List ℕ)) → IsReadTo words 0 [] []
-none_read words = record {
-  within = omega arith;
-  one_budget = omega arith;
-  few_entries = omega arith;
-  gathers = λ out. ((λ all. all), λ all. all);
-  wrong = λ index first. at_index (IsAcceptedTail [] []) words index (0 + index) (omega arith) first;
-}
+pub no_input : (words : List (List ℕ)) (options : Options) (name : List ℕ) → IsReadBy words options → IsNext options (drop options.place words) (Input name) → option_to_list options.input ≡ []
+no_input words options name read next =
+    let few = next.few read.choices read.holds in
+    let most = few.one_input in
+    let parts = ap length (inputs_both read.choices (Input name ∷ [])) ∙ length-append (inputs read.choices) (name ∷ []) in
+    let one : length (name ∷ []) ≡ 1 = refl in
+    read.holds.input ∙ no_items (inputs read.choices) (omega arith)
 
--- where the options end, what all words gather is known
-end_here : (given : List ℕ) (put words : List (List ℕ)) → length given ≤ 1 → length put ≤ 64 → (last : Option (List (List ℕ))) → words ≡ guest_words last → (out : Gathered) → Gathers given put words out ↔ (out ≡ gathered given put [] last)
-end_here given put words one few last form out =
-    let family : List (List ℕ) → Type 0 = λ ws. Gathers given put ws out in (
-      λ gathers.
-          let here = subst family form gathers in
-          end_gathers given put last here.1 here.0 out here.2 here.3,
-      λ equal. (
-        [],
-        last,
-        record {
-          form = form;
-          lawful = tt;
-          one_budget = simp length-append (omega arith);
-          few_entries = simp length-append (omega arith);
-        },
-        equal,
-      ),
-    )
-
-pub all_gathered : (words : List (List ℕ)) (place : ℕ) (given : List ℕ) (put : List (List ℕ)) → IsReadTo words place given put → (last : Option (List (List ℕ))) → drop place words ≡ guest_words last → (out : Gathered) → Gathers [] [] words out ↔ (out ≡ gathered given put [] last)
-all_gathered words place given put read last form out =
-    let here = end_here given put (drop place words) read.one_budget read.few_entries last form out in (
-      λ all. here.0 ((read.gathers out).0 all),
-      λ equal. (read.gathers out).1 (here.1 equal),
-    )
+-- a word that is wrong behind the choices is wrong among all words
+pub wrong_behind : (words : List (List ℕ)) (options : Options) (index : ℕ) → IsReadBy words options → IsWrongBehind options (drop options.place words) index → IsFirstWrongOf IsAcceptedTail words (options.place + index)
+wrong_behind words options index read wrong =
+    let front = choices_words read.choices in
+    let rest = drop options.place words in
+    at_index IsAcceptedTail words (length front + index) (options.place + index) (ap (λ (n : ℕ). n + index) (place_is words options read))
+    (of_words IsAcceptedTail (front ++ rest) words (length front + index) (sym (in_two words options read))
+    (behind_front IsAcceptedTail front rest index (wrong read.choices read.holds)))
 
 -- the slice behind a place, as texts
 pub texts_behind : {X : Type 0} (text : X → List ℕ) (words : List X) (place : ℕ) → map text (take (length words - place) (drop place words)) ≡ drop place (map text words)

@@ -2,5 +2,4 @@ pub mod Words
 pub mod Command
 pub mod FirstWrong
 pub mod Answer
-pub mod Front
 pub mod Tail

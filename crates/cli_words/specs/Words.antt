@@ -20,6 +20,10 @@ equals = 61
 abbrev pub solo : List ℕ
 solo = 115 ∷ 111 ∷ 108 ∷ 111 ∷ []
 
+-- `asm`
+abbrev pub asm : List ℕ
+asm = 97 ∷ 115 ∷ 109 ∷ []
+
 -- `--budget`
 abbrev pub budget_name : List ℕ
 budget_name = 45 ∷ 45 ∷ 98 ∷ 117 ∷ 100 ∷ 103 ∷ 101 ∷ 116 ∷ []
@@ -27,6 +31,14 @@ budget_name = 45 ∷ 45 ∷ 98 ∷ 117 ∷ 100 ∷ 103 ∷ 101 ∷ 116 ∷ []
 -- `--env`
 abbrev pub env_name : List ℕ
 env_name = 45 ∷ 45 ∷ 101 ∷ 110 ∷ 118 ∷ []
+
+-- `--input`
+abbrev pub input_name : List ℕ
+input_name = 45 ∷ 45 ∷ 105 ∷ 110 ∷ 112 ∷ 117 ∷ 116 ∷ []
+
+-- `--keep`
+abbrev pub keep_name : List ℕ
+keep_name = 45 ∷ 45 ∷ 107 ∷ 101 ∷ 101 ∷ 112 ∷ []
 
 -- `--`
 abbrev pub divider : List ℕ
@@ -54,6 +66,14 @@ is_part (first ∷ second ∷ third ∷ rest) = true
 
 abbrev pub is_path : List ℕ → Bool
 is_path bytes = list_all is_part (parts bytes)
+
+-- the name of a file of the tree: a value that is a path
+abbrev pub is_file : List ℕ → Bool
+is_file word = is_value word && is_path word
+
+-- the name of a file that stands in no folder: a value that is one part, with no slash
+abbrev pub is_name : List ℕ → Bool
+is_name word = is_value word && (is_part word && not (list_any (λ byte. byte == slash) word))
 
 -- an entry K=V, where K is what stands before the first `=`: a value that has an `=`, and none in front
 abbrev pub is_entry : List ℕ → Bool

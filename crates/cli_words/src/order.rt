@@ -5,6 +5,8 @@ use file_tree::Text;
 pub enum Order {
     /// One run of a program.
     Solo(Plan),
+    /// A file of instructions is to be made into a program.
+    Asm(AsmPlan),
 }
 
 /// A run of a program.
@@ -20,6 +22,21 @@ pub struct Plan {
     pub env: Vec<Text>,
     /// How many events the run may have, 0 to 33554432.
     pub budget: u32,
+    /// The path in the folder of the file that is the program's input, if one is.
+    pub input: Option<Text>,
+    /// Whether what the program leaves is kept.
+    pub keep: bool,
+}
+
+/// One file that is made into another.
+#[derive(Drop)]
+pub struct AsmPlan {
+    /// The folder of the source.
+    pub folder: Text,
+    /// The source's path in the folder.
+    pub source: Text,
+    /// The name of the file that is made.
+    pub out: Text,
 }
 
 /// Why words are not read.

@@ -1,14 +1,12 @@
 //! The options, up to the guest's words.
 
-ghost use Rattle.std.specs.Prelude.{◌≡◌, ◌≤◌, ◌<◌, ◌↔◌, ◌++◌, ◌∷◌, ◌+◌, ℕ, [], Some, true, false, IfOk, IfErr, OnOk, MatchResult, drop, length, map, slice_get, vec_len};
-ghost use Rattle.std.specs.Option.{option_to_list};
+ghost use Rattle.std.specs.Prelude.{◌≡◌, ◌<◌, ◌++◌, ◌∷◌, ◌+◌, ℕ, [], true, false, IfOk, IfErr, OnOk, MatchResult, drop, length, map, vec_len};
 ghost use Rattle.std.specs.String.{string_bytes};
-ghost use Rattle.cli_words.specs.Words.{budget_name, env_name};
-ghost use Rattle.cli_words.specs.FirstWrong.{IsFirstWrongOf};
-ghost use Rattle.cli_words.specs.Tail.{IsAcceptedTail, IsReadBy, IsEnd, IsFound, IsTailFault};
+ghost use Rattle.cli_words.specs.Words.{budget_name, env_name, input_name, keep_name};
+ghost use Rattle.cli_words.specs.Tail.{IsReadBy, IsEnd, IsFound, IsWrongBehind, IsTailFault};
 
 use crate::order::WordsFault;
-use crate::word::{is_entry, is_same, read_budget, word_at};
+use crate::word::{Front, is_entry, is_file, is_same, read_budget, split};
 use file_tree::Text;
 use std::alloc::{AllocError, Global};
 
@@ -20,14 +18,18 @@ const MOST_ENTRIES: usize = 64;
 pub struct Options {
     pub budget: Option<u32>,
     pub env: Vec<Text>,
+    pub input: Option<Text>,
+    pub keep: bool,
     /// How many words are read.
     pub place: usize,
 }
 
 /// What stands where an option may stand.
 enum Found<'a> {
-    Limit(u32),
-    Entry(&'a str),
+    Budget(u32),
+    Env(&'a str),
+    Input(&'a str),
+    Keep,
     /// The divider, or no word.
     End,
 }
@@ -41,6 +43,8 @@ pub fn read_options(alloc: Global, words: &[String]) -> Result<Options, WordsFau
     let mut options = Options {
         budget: None,
         env: Vec::new(alloc),
+        input: None,
+        keep: false,
         place: 0,
     };
     loop {
@@ -57,86 +61,118 @@ impl Options {
     fn step(&mut self, alloc: Global, words: &[String]) -> Result<bool, WordsFault>
         requires { IsReadBy (map string_bytes words.now) self.old }
         ensures ok { OnOk result (IsReadBy (map string_bytes words.now) self.new) }
-        ensures more { IfOk result (λ more. more ≡ true → self.new.place ≡ self.old.place + 2) }
+        ensures more { IfOk result (λ more. more ≡ true → self.old.place < self.new.place) }
         ensures end { IfOk result (λ more. more ≡ false → IsEnd (drop self.new.place (map string_bytes words.now))) }
         ensures err { IfErr result (λ fault. IsTailFault (map string_bytes words.now) fault) }
     {
         match self.next(&words[self.place..]) {
             Ok(Found::End) => Ok(false),
-            Ok(Found::Limit(budget)) => {
+            Ok(Found::Budget(budget)) => {
                 self.budget = Some(budget);
                 self.place += 2;
                 Ok(true)
             }
-            Ok(Found::Entry(entry)) => match push_copy(alloc, &mut self.env, entry) {
+            Ok(Found::Env(entry)) => match push_copy(alloc, &mut self.env, entry) {
                 Ok(()) => {
                     self.place += 2;
                     Ok(true)
                 }
                 Err(_) => Err(WordsFault::Memory),
             },
+            Ok(Found::Input(name)) => match Text::new(alloc, name) {
+                Ok(input) => {
+                    self.input = Some(input);
+                    self.place += 2;
+                    Ok(true)
+                }
+                Err(_) => Err(WordsFault::Memory),
+            },
+            Ok(Found::Keep) => {
+                self.keep = true;
+                self.place += 1;
+                Ok(true)
+            }
             Err(index) => Err(WordsFault::At(self.place + index)),
         }
     }
 
     /// What stands in front of words, or the index of the first wrong one.
     fn next<'a>(&self, words: &'a [String]) -> Result<Found<'a>, usize>
-        requires { length self.now.env.items ≤ 64 }
-        ensures { MatchResult result
-            (λ found. IsFound (option_to_list self.now.budget) self.now.env.items (map string_bytes words.now) found)
-            (λ index. IsFirstWrongOf (IsAcceptedTail (option_to_list self.now.budget) self.now.env.items) (map string_bytes words.now) index) }
+        ensures { MatchResult result (IsFound self.now (map string_bytes words.now)) (IsWrongBehind self.now (map string_bytes words.now)) }
     {
-        let Some(name) = word_at(words, 0) else {
+        let Some(Front { word, rest }) = split(words) else {
             return Ok(Found::End);
         };
-        if is_same(name, "--") {
+        if is_same(word, "--") {
             return Ok(Found::End);
         }
-        if is_same(name, "--budget") {
-            return self.next_budget(words);
+        if is_same(word, "--budget") {
+            return self.next_budget(rest);
         }
-        if is_same(name, "--env") {
-            return self.next_entry(words);
+        if is_same(word, "--env") {
+            return self.next_entry(rest);
+        }
+        if is_same(word, "--input") {
+            return self.next_input(rest);
+        }
+        if is_same(word, "--keep") {
+            return self.next_keep(rest);
         }
         Err(0)
     }
 
-    fn next_budget<'a>(&self, words: &'a [String]) -> Result<Found<'a>, usize>
-        requires few { length self.now.env.items ≤ 64 }
-        requires name { slice_get (map string_bytes words.now) 0 ≡ Some budget_name }
-        ensures { MatchResult result
-            (λ found. IsFound (option_to_list self.now.budget) self.now.env.items (map string_bytes words.now) found)
-            (λ index. IsFirstWrongOf (IsAcceptedTail (option_to_list self.now.budget) self.now.env.items) (map string_bytes words.now) index) }
+    fn next_budget<'a>(&self, values: &'a [String]) -> Result<Found<'a>, usize>
+        ensures { MatchResult result (IsFound self.now (budget_name ∷ map string_bytes values.now)) (IsWrongBehind self.now (budget_name ∷ map string_bytes values.now)) }
     {
         if self.budget.is_some() {
             return Err(0);
         }
-        let Some(word) = word_at(words, 1) else {
+        let Some(Front { word, .. }) = split(values) else {
             return Err(1);
         };
         match read_budget(word) {
-            Some(budget) => Ok(Found::Limit(budget)),
+            Some(budget) => Ok(Found::Budget(budget)),
             None => Err(1),
         }
     }
 
-    fn next_entry<'a>(&self, words: &'a [String]) -> Result<Found<'a>, usize>
-        requires few { length self.now.env.items ≤ 64 }
-        requires name { slice_get (map string_bytes words.now) 0 ≡ Some env_name }
-        ensures { MatchResult result
-            (λ found. IsFound (option_to_list self.now.budget) self.now.env.items (map string_bytes words.now) found)
-            (λ index. IsFirstWrongOf (IsAcceptedTail (option_to_list self.now.budget) self.now.env.items) (map string_bytes words.now) index) }
+    fn next_entry<'a>(&self, values: &'a [String]) -> Result<Found<'a>, usize>
+        ensures { MatchResult result (IsFound self.now (env_name ∷ map string_bytes values.now)) (IsWrongBehind self.now (env_name ∷ map string_bytes values.now)) }
     {
         if self.env.len() >= MOST_ENTRIES {
             return Err(0);
         }
-        let Some(word) = word_at(words, 1) else {
+        let Some(Front { word, .. }) = split(values) else {
             return Err(1);
         };
         if !is_entry(word) {
             return Err(1);
         }
-        Ok(Found::Entry(word))
+        Ok(Found::Env(word))
+    }
+
+    fn next_input<'a>(&self, values: &'a [String]) -> Result<Found<'a>, usize>
+        ensures { MatchResult result (IsFound self.now (input_name ∷ map string_bytes values.now)) (IsWrongBehind self.now (input_name ∷ map string_bytes values.now)) }
+    {
+        if self.input.is_some() {
+            return Err(0);
+        }
+        let Some(Front { word, .. }) = split(values) else {
+            return Err(1);
+        };
+        if !is_file(word) {
+            return Err(1);
+        }
+        Ok(Found::Input(word))
+    }
+
+    fn next_keep<'a>(&self, rest: &'a [String]) -> Result<Found<'a>, usize>
+        ensures { MatchResult result (IsFound self.now (keep_name ∷ map string_bytes rest.now)) (IsWrongBehind self.now (keep_name ∷ map string_bytes rest.now)) }
+    {
+        if self.keep {
+            return Err(0);
+        }
+        Ok(Found::Keep)
     }
 }
 

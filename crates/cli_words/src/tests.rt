@@ -16,6 +16,18 @@ fn plan_of(alloc: Global, texts: &[&str]) -> Result<Option<Plan>, AllocError> {
     let words = words_of(alloc, texts)?;
     match read(alloc, words.as_slice()) {
         Ok(Order::Solo(plan)) => Ok(Some(plan)),
+        Ok(Order::Asm(_)) => Ok(None),
+        Err(WordsFault::At(_)) => Ok(None),
+        Err(WordsFault::Memory) => Err(AllocError),
+    }
+}
+
+/// The plan of words that ask for an `asm`, if they are accepted.
+fn asm_of(alloc: Global, texts: &[&str]) -> Result<Option<AsmPlan>, AllocError> {
+    let words = words_of(alloc, texts)?;
+    match read(alloc, words.as_slice()) {
+        Ok(Order::Solo(_)) => Ok(None),
+        Ok(Order::Asm(plan)) => Ok(Some(plan)),
         Err(WordsFault::At(_)) => Ok(None),
         Err(WordsFault::Memory) => Err(AllocError),
     }
@@ -24,6 +36,15 @@ fn plan_of(alloc: Global, texts: &[&str]) -> Result<Option<Plan>, AllocError> {
 /// The index of the first wrong word, if the words aren't accepted.
 fn wrong_word(alloc: Global, texts: &[&str]) -> Result<Option<usize>, AllocError> {
     let words = words_of(alloc, texts)?;
+    wrong_of(alloc, words.as_slice())
+}
+
+/// The same of the words of a line, with single spaces between them.
+fn wrong_in(alloc: Global, line: &str) -> Result<Option<usize>, AllocError> {
+    let mut words = Vec::new(alloc);
+    for word in line.split(' ') {
+        words.push(String::from_str(alloc, word)?)?;
+    }
     wrong_of(alloc, words.as_slice())
 }
 
@@ -56,6 +77,8 @@ fn a_command_without_options_has_the_default_budget(rt: HostRuntime) -> Result<(
     assert!(rt; are(plan.args.as_slice(), &[]));
     assert!(rt; are(plan.env.as_slice(), &[]));
     assert_eq!(rt; plan.budget, 4_194_304);
+    assert!(rt; plan.input.is_none());
+    assert!(rt; !plan.keep);
     Ok(())
 }
 
@@ -88,22 +111,113 @@ fn all_words_behind_the_divider_are_the_guests(rt: HostRuntime) -> Result<(), Al
 }
 
 #[test]
-fn a_wrong_word_of_the_front_is_named(rt: HostRuntime) -> Result<(), AllocError> {
+fn the_first_wrong_word_of_solo_is_named(rt: HostRuntime) -> Result<(), AllocError> {
     let alloc = rt.alloc();
     assert_eq!(rt; wrong_word(alloc, &[])?, Some(0));
-    assert_eq!(rt; wrong_word(alloc, &["run", "F", "p"])?, Some(0));
-    assert_eq!(rt; wrong_word(alloc, &[""])?, Some(0));
-    assert_eq!(rt; wrong_word(alloc, &["solo"])?, Some(1));
-    assert_eq!(rt; wrong_word(alloc, &["solo", ""])?, Some(1));
-    assert_eq!(rt; wrong_word(alloc, &["solo", "-F", "p"])?, Some(1));
-    assert_eq!(rt; wrong_word(alloc, &["solo", "F"])?, Some(2));
-    assert_eq!(rt; wrong_word(alloc, &["solo", "F", ""])?, Some(2));
-    assert_eq!(rt; wrong_word(alloc, &["solo", "F", "./p"])?, Some(2));
-    assert_eq!(rt; wrong_word(alloc, &["solo", "F", "a/../p"])?, Some(2));
-    assert_eq!(rt; wrong_word(alloc, &["solo", "F", "a//p"])?, Some(2));
-    assert_eq!(rt; wrong_word(alloc, &["solo", "F", "-p"])?, Some(2));
-    assert_eq!(rt; wrong_word(alloc, &["solo", "F", "p", "q"])?, Some(3));
-    assert_eq!(rt; wrong_word(alloc, &["solo", "F", "p", ""])?, Some(3));
+    // the words of each line stand between single spaces, so that two spaces have an empty word between them
+    let table = [
+        ("", 0),
+        ("run F p", 0),
+        ("solo", 1),
+        ("solo ", 1),
+        ("solo -F p", 1),
+        ("solo F", 2),
+        ("solo F ", 2),
+        ("solo F ./p", 2),
+        ("solo F a/../p", 2),
+        ("solo F a//p", 2),
+        ("solo F -p", 2),
+        ("solo F p q", 3),
+        ("solo F p ", 3),
+        ("solo F p --budget", 4),
+        ("solo F p --budget 5 --budget 6", 5),
+        ("solo F p --budget 5 --env A= --budget 6", 7),
+        ("solo F p --budget=5", 3),
+        ("solo F p --env", 4),
+        ("solo F p --env ", 4),
+        ("solo F p --env =v", 4),
+        ("solo F p --env =", 4),
+        ("solo F p --env K", 4),
+        ("solo F p --env -K=v", 4),
+        ("solo F p --env --", 4),
+        ("solo F p --envK=V", 3),
+        ("solo F p --env=K=V", 3),
+        ("solo F p --env K=v x", 5),
+        ("solo F p --input", 4),
+        ("solo F p --input ", 4),
+        ("solo F p --input a//b", 4),
+        ("solo F p --input a/..", 4),
+        ("solo F p --input -a", 4),
+        ("solo F p --input -- a", 4),
+        ("solo F p --input=a", 3),
+        ("solo F p --input a --input b", 5),
+        ("solo F p --input a --keep --input a", 6),
+        ("solo F p --keep --keep", 4),
+        ("solo F p --keep --env K=v --keep", 6),
+        ("solo F p --keep=1", 3),
+        ("solo F p --keep 1", 4),
+    ];
+    for (line, index) in &table {
+        assert_eq!(rt; wrong_in(alloc, line)?, Some(*index));
+    }
+    Ok(())
+}
+
+#[test]
+fn the_first_wrong_word_of_asm_is_named(rt: HostRuntime) -> Result<(), AllocError> {
+    let table = [
+        ("as F s.s o", 0),
+        ("asm", 1),
+        ("asm ", 1),
+        ("asm -F s.s o", 1),
+        ("asm F", 2),
+        ("asm F ../s.s o", 2),
+        ("asm F s//t.s o", 2),
+        ("asm F -s o", 2),
+        ("asm F s.s", 3),
+        ("asm F s.s ", 3),
+        ("asm F s.s .", 3),
+        ("asm F s.s ..", 3),
+        ("asm F s.s a/o", 3),
+        ("asm F s.s o/", 3),
+        ("asm F s.s /o", 3),
+        ("asm F s.s -o", 3),
+        ("asm F s.s --keep", 3),
+        ("asm F s.s o x", 4),
+        ("asm F s.s o ", 4),
+        ("asm F s.s o --", 4),
+        ("asm F s.s o --keep", 4),
+    ];
+    for (line, index) in &table {
+        assert_eq!(rt; wrong_in(rt.alloc(), line)?, Some(*index));
+    }
+    Ok(())
+}
+
+#[test]
+fn an_asm_has_a_folder_a_source_and_a_name(rt: HostRuntime) -> Result<(), AllocError> {
+    let alloc = rt.alloc();
+    let plan = asm_of(alloc, &["asm", "F/G", "a/b.s", "o.elf"])?.expect(&rt, "accepted");
+    assert_eq!(rt; plan.folder.as_str(), "F/G");
+    assert_eq!(rt; plan.source.as_str(), "a/b.s");
+    assert_eq!(rt; plan.out.as_str(), "o.elf");
+    Ok(())
+}
+
+#[test]
+fn an_input_and_keep_stand_among_the_options(rt: HostRuntime) -> Result<(), AllocError> {
+    let alloc = rt.alloc();
+    let texts = [
+        "solo", "F", "p", "--keep", "--env", "A=1", "--input", "in/a.txt", "--budget", "7", "--",
+        "--keep",
+    ];
+    let plan = plan_of(alloc, &texts)?.expect(&rt, "accepted");
+    assert!(rt; plan.keep);
+    assert!(rt; are(plan.args.as_slice(), &["--keep"]));
+    assert!(rt; are(plan.env.as_slice(), &["A=1"]));
+    assert_eq!(rt; plan.budget, 7);
+    let input = plan.input.expect(&rt, "given");
+    assert_eq!(rt; input.as_str(), "in/a.txt");
     Ok(())
 }
 
@@ -144,59 +258,6 @@ fn a_budget_is_digits_without_a_zero_in_front(rt: HostRuntime) -> Result<(), All
             Some(4)
         );
     }
-    Ok(())
-}
-
-#[test]
-fn a_budget_is_given_once_with_its_value(rt: HostRuntime) -> Result<(), AllocError> {
-    let alloc = rt.alloc();
-    assert_eq!(rt;
-        wrong_word(alloc, &["solo", "F", "p", "--budget"])?,
-        Some(4)
-    );
-    assert_eq!(rt;
-        wrong_word(alloc, &["solo", "F", "p", "--budget", "5", "--budget", "6"])?,
-        Some(5)
-    );
-    assert_eq!(rt;
-        wrong_word(
-            alloc,
-            &[
-                "solo", "F", "p", "--budget", "5", "--env", "A=", "--budget", "6"
-            ]
-        )?,
-        Some(7)
-    );
-    assert_eq!(rt;
-        wrong_word(alloc, &["solo", "F", "p", "--budget=5"])?,
-        Some(3)
-    );
-    Ok(())
-}
-
-#[test]
-fn an_entry_has_a_name_and_an_equals_sign(rt: HostRuntime) -> Result<(), AllocError> {
-    let alloc = rt.alloc();
-    for value in &["", "=v", "=", "K", "-K=v", "--"] {
-        assert_eq!(rt;
-            wrong_word(alloc, &["solo", "F", "p", "--env", value])?,
-            Some(4)
-        );
-    }
-    assert_eq!(rt; wrong_word(alloc, &["solo", "F", "p", "--env"])?, Some(4));
-    assert_eq!(rt;
-        wrong_word(alloc, &["solo", "F", "p", "--envK=V"])?,
-        Some(3)
-    );
-    assert_eq!(rt;
-        wrong_word(alloc, &["solo", "F", "p", "--env=K=V"])?,
-        Some(3)
-    );
-    assert_eq!(rt; wrong_word(alloc, &["solo", "F", "p", "--keep"])?, Some(3));
-    assert_eq!(rt;
-        wrong_word(alloc, &["solo", "F", "p", "--env", "K=v", "x"])?,
-        Some(5)
-    );
     Ok(())
 }
 

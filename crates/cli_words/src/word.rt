@@ -1,21 +1,31 @@
 //! One word.
 
-ghost use Rattle.std.specs.Prelude.{◌≡◌, ◌≢◌, ◌≤◌, ℕ, IsTrue, ◌↔◌, length, map, MatchOption, None, Some, slice_get, slice_index};
+ghost use Rattle.std.specs.Prelude.{◌≡◌, ◌≢◌, ◌≤◌, ℕ, IsTrue, ◌↔◌, [], ◌∷◌, length, map, MatchOption, slice_index};
 ghost use Rattle.std.specs.String.{string_bytes};
 ghost use Rattle.std.specs.Fmt.{decimal};
-ghost use Rattle.cli_words.specs.Words.{is_value as value_word, is_part as path_part, is_path as path_word, is_entry as entry_word};
+ghost use Rattle.cli_words.specs.Words.{is_value as value_word, is_part as path_part, is_path as path_word, is_entry as entry_word, is_file as file_word, is_name as name_word};
 
 /// The greatest budget.
 const MOST: u32 = 33_554_432;
 
-/// The word at an index.
-pub fn word_at(words: &[String], index: usize) -> Option<&str>
-    ensures { MatchOption result (slice_get (map string_bytes words.now) index ≡ None) (λ word. slice_get (map string_bytes words.now) index ≡ Some word.now) }
+/// The first of some words, and those behind it.
+#[derive(Clone, Copy)]
+pub struct Front<'a> {
+    pub word: &'a str,
+    pub rest: &'a [String],
+}
+
+/// Takes the first word off.
+pub fn split(words: &[String]) -> Option<Front<'_>>
+    ensures { MatchOption result (map string_bytes words.now ≡ [])
+        (λ split. map string_bytes words.now ≡ split.word.now ∷ map string_bytes split.rest.now) }
 {
-    if index < words.len() {
-        Some(words[index].as_str())
-    } else {
-        None
+    match words {
+        [] => None,
+        [word, rest @ ..] => Some(Front {
+            word: word.as_str(),
+            rest,
+        }),
     }
 }
 
@@ -44,6 +54,20 @@ pub fn is_entry(word: &str) -> bool
         [] => false,
         [first, rest @ ..] => *first != b'-' && *first != b'=' && rest.contains(&b'='),
     }
+}
+
+/// Whether a word names a file of the tree: a value that is a path.
+pub fn is_file(word: &str) -> bool
+    ensures { result ≡ file_word word.now }
+{
+    is_value(word) && is_path(word)
+}
+
+/// Whether a word names a file that stands in no folder: a value that is neither `.` nor `..`, with no slash.
+pub fn is_name(word: &str) -> bool
+    ensures { result ≡ name_word word.now }
+{
+    is_value(word) && is_part(word.as_bytes()) && !word.as_bytes().contains(&b'/')
 }
 
 /// The budget that a word spells: decimal digits, with no zero in front of others, up to 33554432.
@@ -75,7 +99,7 @@ fn has_plain_front(bytes: &[u8]) -> bool
 }
 
 /// Whether a word is a path: parts with `/` between them, none of them empty, `.` or `..`.
-pub fn is_path(word: &str) -> bool
+fn is_path(word: &str) -> bool
     ensures { result ≡ path_word word.now }
 {
     has_parts(word.as_bytes())

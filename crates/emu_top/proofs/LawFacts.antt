@@ -1,44 +1,62 @@
 -- That the journal of each answer is lawful.
-use Rattle.std.proofs.Common.{◌≡◌, ℕ, ◌≤◌, List, [], ◌∷◌, Option, sym, subst, arith}
-use Rattle.cli_words.specs.Command.{AllLawful, Asked, Budget, Choice, Env, IsAsked, budget_of, budgets, most_budget}
-use Rattle.guest_core.specs.declared.ends.End.{End}
+use Rattle.std.proofs.Common.{◌≡◌, ◌⊎◌, inl, inr, ℕ, ◌≤◌, List, [], ◌∷◌, Option, length, sym, subst, arith}
+use Rattle.cli_words.specs.Command.{AllLawful, Asked, Budget, Choice, Env, Input, IsAsked, Keep, budget_of, budgets, most_budget}
 use Rattle.guest_core.specs.Machine.{Machine}
 use Rattle.image_store.specs.declared.folder.Entry.{Entry}
-use Rattle.emu_top.specs.declared.prepare.Launch.{Launch}
-use Rattle.emu_top.specs.declared.solo.Halt.{Halt}
-use Rattle.emu_top.specs.declared.solo.Halt.TheVariants as halts
-use Rattle.emu_top.specs.Journal.{History, IsLawful}
-use Rattle.emu_top.specs.Loading.{IsLaunch}
-use Rattle.emu_top.specs.Solo.{CoreFinishes, CoreStops, RunsFrom}
+use Rattle.linux_model.specs.Process.{ProcessState}
+use Rattle.emu_top.specs.declared.cause.Cause.{Cause}
+use Rattle.emu_top.specs.declared.ends.End.{End}
+use Rattle.emu_top.specs.Causes.{AtChoosing, AtEvents, AtFile, AtLoading, AtNaming, AtSource, AtStart, AtStoring, AtWords, Faults, Step, Stops}
+use Rattle.emu_run.specs.Journal.{History}
+use Rattle.emu_top.specs.Lawful.{IsLawful}
+use Rattle.emu_top.specs.Outside.{Outside}
+use Rattle.emu_top.specs.Solo.{Ends, Finishes, Journeys}
 
 -- a budget that words ask for is at most the greatest
 few_by : (choices : List Choice) → AllLawful choices → budget_of (budgets choices) ≤ most_budget
 few_by [] all = omega arith
 few_by (Budget budget ∷ choices) all = all.0
 few_by (Env entry ∷ choices) all = few_by choices all.1
+few_by (Input name ∷ choices) all = few_by choices all.1
+few_by (Keep ∷ choices) all = few_by choices all.1
 
 asked_few : (words : List (List ℕ)) (asked : Asked) → IsAsked words asked → asked.budget ≤ most_budget
 asked_few words asked asks = rw asks.2 (few_by asks.0.choices asks.1.lawful)
 
-pub launch_few : (tree : Option (List Entry)) (words : List (List ℕ)) (launch : Launch) → IsLaunch tree words launch → launch.budget ≤ most_budget
-launch_few tree words launch is = rw is.budget (asked_few words is.asked is.prepared.asks)
-
-runs_lawful : (core : Machine) (budget : ℕ) (journal : History) (last : Machine) → RunsFrom core budget journal last → budget ≤ most_budget → IsLawful journal
-runs_lawful core budget journal last runs few = record {
-  budget_fits = subst (λ (n : ℕ). n ≤ most_budget) (sym runs.budget_is) few;
-  within = runs.within;
+run_lawful : (folder : Option (List Entry)) (words : List (List ℕ)) (devices : ℕ) (journal : History) (last : Machine) (process : ProcessState) → Journeys folder words devices journal last process → IsLawful journal
+run_lawful folder words devices journal last process journeys = record {
+  budget_fits = rw journeys.budget_is (asked_few words journeys.prepared.asked journeys.prepared.asks);
+  within = journeys.within;
 }
 
-pub finish_lawful : {D : Type 0} (held : D → Option (List ℕ)) (core : Machine) (budget : ℕ) (before : List D) (end : End) (status : ℕ) (journal : History) (after : List D) → CoreFinishes held core budget before end status journal after → budget ≤ most_budget → IsLawful journal
-finish_lawful held core budget before end status journal after finished few = runs_lawful core budget journal finished.last finished.runs few
-
-pub stop_lawful : {D : Type 0} (held : D → Option (List ℕ)) (writes : D → ℕ) (core : Machine) (budget : ℕ) (before : List D) (halt : Halt) (journal : History) (after : List D) → CoreStops held writes core budget before halt journal after → budget ≤ most_budget → IsLawful journal
-stop_lawful held writes core budget before (halts.Device device) journal after stopped few = runs_lawful core budget journal stopped.0 stopped.1 few
-stop_lawful held writes core budget before halts.Memory journal after stopped few = runs_lawful core budget journal stopped.0 stopped.1 few
-
 -- a journal of no run
-pub empty_lawful : (journal : History) → journal.events ≡ [] → journal.budget ≡ 0 → IsLawful journal
+empty_lawful : (journal : History) → journal.events ≡ [] → journal.budget ≡ 0 → IsLawful journal
 empty_lawful journal none budget = record {
   budget_fits = rw budget (omega arith);
   within = rw none (omega arith);
 }
+
+ends_lawful : (before after : Outside) (words : List (List ℕ)) (end : End) (journal : History) → Ends before after words end journal → IsLawful journal
+ends_lawful before after words end journal (inl ran) = run_lawful _ words _ journal ran.last ran.is_run.process ran.is_run.journeys
+ends_lawful before after words end journal (inr made) = empty_lawful journal made.no_event made.no_budget
+
+pub finish_lawful : (before after : Outside) (words : List (List ℕ)) (end : End) (status : ℕ) (journal : History) → Finishes before after words end status journal → IsLawful journal
+finish_lawful before after words end status journal finishes = ends_lawful before after words end journal finishes.ends
+
+stop_lawful : (before after : Outside) (words : List (List ℕ)) (step : Step) (journal : History) → Stops before after words step journal → IsLawful journal
+stop_lawful before after words (AtWords fault) journal stops = empty_lawful journal stops.no_event stops.no_budget
+stop_lawful before after words (AtLoading fault) journal stops = empty_lawful journal stops.no_event stops.no_budget
+stop_lawful before after words (AtNaming path) journal stops = empty_lawful journal stops.no_event stops.no_budget
+stop_lawful before after words (AtChoosing path) journal stops = empty_lawful journal stops.no_event stops.no_budget
+stop_lawful before after words (AtFile fault) journal stops = empty_lawful journal stops.no_event stops.no_budget
+stop_lawful before after words (AtSource fault) journal stops = empty_lawful journal stops.no_event stops.no_budget
+stop_lawful before after words (AtStart fault) journal stops = empty_lawful journal stops.no_event stops.no_budget
+stop_lawful before after words (AtEvents halt) journal stops = run_lawful _ words _ journal stops.last stops.process stops.journeys
+stop_lawful before after words (AtStoring fault) journal stops = elim stops.stores [
+  | inl ran ↦ run_lawful _ words _ journal ran.last ran.is_run.process ran.is_run.journeys
+  | inr made ↦ empty_lawful journal made.no_event made.no_budget
+]
+
+pub fault_lawful : (before after : Outside) (words : List (List ℕ)) (cause : Cause) (journal : History) → Faults before after words cause journal → IsLawful journal
+fault_lawful before after words cause journal (inl at_step) = stop_lawful before after words at_step.step journal at_step.stops
+fault_lawful before after words cause journal (inr behind) = ends_lawful before after words behind.end journal behind.ends

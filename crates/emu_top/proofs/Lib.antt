@@ -1,11 +1,7 @@
-pub mod JournalFacts
-pub mod SendFacts
-pub mod TurnFacts
-pub mod RunFacts
-pub mod ScheduleFacts
-pub mod TopFacts
-pub mod LawFacts
-pub mod RowsSimulate
-pub mod EventsSimulate
-pub mod CompleteFacts
+pub mod CauseFacts
 pub mod LaunchFacts
+pub mod AssemblyFacts
+pub mod TopFacts
+pub mod CompleteFacts
+pub mod LawFacts
+pub mod AnswerFacts

@@ -1,34 +1,59 @@
--- Why no program was loaded from a folder.
+-- What is started over a loaded folder, and why nothing was.
 -- The project's own.
-use Rattle.std.specs.Prelude.{◌≡◌, ℕ, List, Option}
-use Rattle.image_store.specs.declared.folder.Entry.{Entry}
-use Rattle.image_store.specs.declared.folder.FolderError.{FolderError}
-use Rattle.image_store.specs.declared.folder.FolderError.TheVariants as errors
-use Rattle.image_store.specs.declared.folder.Listed.{Listed}
-use Rattle.emu_top.specs.declared.prepare.LoadFault.{LoadFault}
-use Rattle.emu_top.specs.declared.prepare.LoadFault.TheVariants as faults
-use Rattle.image_store.specs.Files.{Lists}
-use Rattle.emu_top.specs.declared.prepare.Launch.{Launch}
-use Rattle.emu_top.specs.Solo.{HasProgram, Prepared, args_of}
+use Rattle.std.specs.Prelude.{◌≡◌, ◌⊎◌, ℕ, List, Option, Ok, Err}
 use Rattle.cli_words.specs.Command.{Asked}
-use Rattle.elf_file.specs.Reading.{image}
-use Rattle.told.specs.Told.{Rose}
+use Rattle.elf_file.specs.declared.fault.ElfFault.{ElfFault}
+use Rattle.elf_file.specs.Reading.{Gives, Image, reading}
+use Rattle.file_table.specs.Opening.{started as opened_first}
+use Rattle.file_tree.specs.Nodes.{Tree, file_bytes}
+use Rattle.guest_core.specs.declared.starting.StartFault.{StartFault}
+use Rattle.guest_core.specs.Kept.{Keeps}
+use Rattle.guest_core.specs.Start.{FitsIn, Refuses, started}
+use Rattle.image_store.specs.declared.loading.Loaded.{Loaded}
+use Rattle.emu_top.specs.declared.cause.Cause.{Cause}
+use Rattle.emu_top.specs.declared.prepare.Launch.{Launch}
+use Rattle.emu_top.specs.Causes.{AtChoosing, AtFile, AtStart, IsTold, Lacks}
+use Rattle.emu_top.specs.Solo.{IsChosen, launched}
 
-abbrev pub load_fault : FolderError → LoadFault
-load_fault errors.Failed = faults.ReadFault
-load_fault errors.Memory = faults.Memory
+-- what is to be started is what was asked for
+pub record IsLaunch (loaded : Loaded) (asked : Asked) (devices : ℕ) (launch : Launch) : Type 0 where
+  pub loaded_is : launch.loaded ≡ loaded
+  pub program : ℕ
+  pub input : Option ℕ
+  pub chosen : IsChosen loaded.tree asked program input
+  pub image : Image
+  pub image_is : reading (file_bytes loaded.tree.nodes program) ≡ Ok image
+  pub fits : FitsIn (launched asked image)
+  pub core_is : launch.core ≡ started (launched asked image) (opened_first loaded.tree devices input)
+  pub keeps : Keeps launch.core
+  pub budget_is : launch.budget ≡ asked.budget
+  pub keep_is : launch.keep ≡ asked.keep
 
--- why the program's bytes weren't read. Want of memory is free
-abbrev pub NotLoaded : Option (List Entry) → ℕ → ℕ → List ℕ → LoadFault → Type 0
-NotLoaded tree reads_before reads_after program (faults.NoProgram name) =
-    (name ≡ program) × ((listing : List Listed) × Lists tree listing × (HasProgram listing program → ⊥))
-NotLoaded tree reads_before reads_after program faults.ReadFault = Rose reads_before reads_after
-NotLoaded tree reads_before reads_after program faults.Memory = Unit {0}
+-- a file that is named is missing
+pub record IsMissed (tree : Tree) (asked : Asked) (cause : Cause) : Type 0 where
+  pub path : List ℕ
+  pub lacks : Lacks tree asked path
+  pub told : IsTold (AtChoosing path) cause
 
--- what is to be started is what the words ask for
-pub record IsLaunch (tree : Option (List Entry)) (words : List (List ℕ)) (launch : Launch) : Type 0 where
-  pub asked : Asked
-  pub prepared : Prepared tree words asked (image launch.elf)
-  pub args : launch.args.items ≡ args_of asked
-  pub env : launch.env.items ≡ asked.env
-  pub budget : launch.budget ≡ asked.budget
+-- the program is no file that can be run
+pub record IsNoElf (tree : Tree) (asked : Asked) (cause : Cause) : Type 0 where
+  pub program : ℕ
+  pub input : Option ℕ
+  pub chosen : IsChosen tree asked program input
+  pub fault : ElfFault
+  pub gives : Gives (Err fault) (reading (file_bytes tree.nodes program))
+  pub told : IsTold (AtFile fault) cause
+
+-- it can't be started
+pub record IsNoStart (tree : Tree) (asked : Asked) (cause : Cause) : Type 0 where
+  pub program : ℕ
+  pub input : Option ℕ
+  pub chosen : IsChosen tree asked program input
+  pub image : Image
+  pub image_is : reading (file_bytes tree.nodes program) ≡ Ok image
+  pub fault : StartFault
+  pub refuses : Refuses (launched asked image) fault
+  pub told : IsTold (AtStart fault) cause
+
+abbrev pub NotLaunched : Tree → Asked → Cause → Type 0
+NotLaunched tree asked cause = IsMissed tree asked cause ⊎ (IsNoElf tree asked cause ⊎ IsNoStart tree asked cause)

@@ -1,14 +1,15 @@
 //! The lines on the notes.
 
-ghost use Rattle.std.specs.Prelude.{◌≡◌, ◌++◌, IfOk};
+ghost use Rattle.std.specs.Prelude.{◌≡◌, ◌++◌, IfOk, codes, decimal};
 ghost use Rattle.std.specs.Option.{option_map};
 ghost use Rattle.std.specs.String.{string_bytes};
 ghost use Rattle.emu_top.specs.Causes.{row_of};
-ghost use Rattle.emu_top.specs.Notes.{end_line, part_text, fault_text, newline};
+ghost use Rattle.emu_top.specs.Notes.{asm_text, end_line, part_text, fault_text, newline};
 
 use crate::cause::{Cause, Part};
+use crate::ends::End;
 use elf_file::ElfFault;
-use guest_core::End;
+use isa_asm::{AsmCause, AsmFault};
 use std::alloc::{AllocError, Global};
 
 /// The line of an end under a budget, where it has one.
@@ -22,6 +23,7 @@ pub fn line_of_end(alloc: Global, budget: u32, end: &End) -> Result<Option<Strin
             Ok(Some(format!(in alloc; "rvuser: killed by signal {signal}\n")?))
         }
         End::Budget => Ok(Some(format!(in alloc; "rvuser: budget of {budget} events spent\n")?)),
+        End::Done => Ok(None),
     }
 }
 
@@ -55,19 +57,39 @@ fn text_of_fault(alloc: Global, fault: &ElfFault) -> Result<String, AllocError>
     }
 }
 
+fn text_of_asm(alloc: Global, cause: &AsmCause) -> Result<String, AllocError>
+    ensures { IfOk result (λ text. string_bytes text ≡ asm_text cause.now) }
+{
+    match cause {
+        AsmCause::Word => String::from_str(alloc, "Word"),
+        AsmCause::Operand => String::from_str(alloc, "Operand"),
+        AsmCause::Range => String::from_str(alloc, "Range"),
+        AsmCause::Label => String::from_str(alloc, "Label"),
+        AsmCause::Twice => String::from_str(alloc, "Twice"),
+        AsmCause::TooBig => String::from_str(alloc, "TooBig"),
+        AsmCause::NoText => String::from_str(alloc, "NoText"),
+        AsmCause::Memory => String::from_str(alloc, "Memory"),
+    }
+}
+
 /// The line of a fault, where it has one.
 pub fn line_of_cause(alloc: Global, cause: &Cause) -> Result<Option<String>, AllocError>
     ensures { IfOk result (λ line. option_map string_bytes line ≡ (row_of cause.now).line) }
 {
     match cause {
         Cause::Usage { word } => Ok(Some(format!(in alloc; "rvuser: usage: word {word}\n")?)),
-        Cause::NoProgram(program) => {
-            Ok(Some(line(alloc, "rvuser: no file ", program.as_str())?))
+        Cause::TooMany { count } => {
+            Ok(Some(format!(in alloc; "rvuser: too many entries: {count}\n")?))
         }
+        Cause::Link(path) => Ok(Some(line(alloc, "rvuser: not a plain file: ", path.as_str())?)),
+        Cause::TooBig(path, size) => Ok(Some(line_of_size(alloc, path.as_str(), *size)?)),
+        Cause::NotAFile(path) => Ok(Some(line(alloc, "rvuser: not a file: ", path.as_str())?)),
+        Cause::NoProgram(path) => Ok(Some(line(alloc, "rvuser: no file ", path.as_str())?)),
         Cause::Elf(fault) => {
             let text = text_of_fault(alloc, fault)?;
             Ok(Some(line(alloc, "rvuser: not runnable: ", text.as_str())?))
         }
+        Cause::Asm(fault) => Ok(Some(line_of_asm(alloc, fault)?)),
         Cause::StackTooLong { size } => {
             Ok(Some(format!(in alloc; "rvuser: stack texts of {size} bytes\n")?))
         }
@@ -93,6 +115,31 @@ fn line_of_write(alloc: Global, part: &Part) -> Result<Option<String>, AllocErro
         Part::Notes => return Ok(None),
     };
     Ok(Some(line(alloc, "rvuser: write failed: ", text.as_str())?))
+}
+
+/// The line of a file that is too big.
+fn line_of_size(alloc: Global, path: &str, size: u64) -> Result<String, AllocError>
+    ensures { IfOk result (λ line. string_bytes line ≡ codes "rvuser: too big: " ++ (path.now ++ (codes " " ++ (decimal size ++ newline)))) }
+{
+    let mut line = String::from_str(alloc, "rvuser: too big: ")?;
+    line.push_str(path)?;
+    let size = format!(in alloc; " {size}\n")?;
+    line.push_str(size.as_str())?;
+    Ok(line)
+}
+
+/// The line of a source that isn't assembled.
+fn line_of_asm(alloc: Global, fault: &AsmFault) -> Result<String, AllocError>
+    ensures { IfOk result (λ line. string_bytes line ≡ codes "rvuser: line " ++ (decimal fault.now.line ++ (codes ": " ++ (asm_text fault.now.cause ++ newline)))) }
+{
+    let mut line = String::from_str(alloc, "rvuser: line ")?;
+    let number = fault.line;
+    let number = format!(in alloc; "{number}: ")?;
+    line.push_str(number.as_str())?;
+    let text = text_of_asm(alloc, &fault.cause)?;
+    line.push_str(text.as_str())?;
+    line.push('\n')?;
+    Ok(line)
 }
 
 /// A line of two texts.

@@ -2,8 +2,8 @@
 
 ghost use Rattle.std.specs.Prelude.{None, ◌≡◌, ◌≤◌, IfOk, length};
 
-use crate::device::{Device, DeviceFailed};
 use crate::sink::{Sink, SinkFailed};
+use dev_board::{Device, DeviceFailed};
 use std::io::{self, Read, Stderr, Stdin, Stdout, Write};
 
 /// One of the standard streams.

@@ -21,7 +21,7 @@ use Rattle.file_table.specs.Flags.{are_wrong, can_read, can_write, changes, crea
 use Rattle.file_table.specs.Moving.{counted_from, cut, cut_kind, file_read, file_written, lawful, moved, past, place_of, read, read_target, seek, sought, truncate, went_on, with_output, write, write_at, write_target, write_target_at}
 use Rattle.file_table.specs.Opening.{bare, device_description, new_device, open_base, open_found, open_free, open_kind, open_made, open_there, opened, standing, started, with_devices}
 use Rattle.file_table.specs.Paths.{base, put_tree, with_dir, with_tree, without}
-use Rattle.file_table.specs.State.{Files, at, chosen, open_as, outputs_of}
+use Rattle.file_table.specs.State.{Files, OnlyDie, at, chosen, lives_by, open_as, outputs_of}
 
 -- ---- of one device of a list
 
@@ -45,6 +45,30 @@ pub dead_same : (devices : List Device) (device : ℕ) → map (λ d. d.output) 
 dead_same devices device =
     outputs_set devices device _ ∙ (ap (set (map (λ d. d.output) devices) device) (output_at devices device) ∙ same_set (map (λ d. d.output) devices) device)
 
+-- and only one that lives no more is otherwise
+pub dead_dies : (devices : List Device) (device : ℕ) → OnlyDie devices (set devices device (dead (get_or devices device no_device)))
+dead_dies [] device = λ place lives. lives
+dead_dies (first ∷ devices) zero = elim [
+  | zero ↦ λ lives. absurd (let f : ⊥ = cc in f)
+  | suc place ↦ λ lives. lives
+]
+dead_dies (first ∷ devices) (suc device) = elim [
+  | zero ↦ λ lives. lives
+  | suc place ↦ λ lives. dead_dies devices device place lives
+]
+
+-- a write leaves alone which devices live
+pub written_dies : (devices : List Device) (device : ℕ) (bytes : List ℕ) → OnlyDie devices (with_output device bytes devices)
+written_dies [] device bytes = λ place lives. lives
+written_dies (first ∷ devices) zero bytes = elim [
+  | zero ↦ λ lives. lives
+  | suc place ↦ λ lives. lives
+]
+written_dies (first ∷ devices) (suc device) bytes = elim [
+  | zero ↦ λ lives. lives
+  | suc place ↦ λ lives. written_dies devices device bytes place lives
+]
+
 -- what is written goes behind
 pub written_more : (devices : List Device) (device : ℕ) (bytes : List ℕ) → map (λ d. d.output) (with_output device bytes devices) ≡ set (map (λ d. d.output) devices) device (get_or (map (λ d. d.output) devices) device [] ++ bytes)
 written_more devices device bytes =
@@ -52,10 +76,14 @@ written_more devices device bytes =
 
 -- ---- calls that leave what was written
 
--- where there is an answer, what was written is as before
+-- what was written is as before, and devices only die
+abbrev pub Kept : Files → Files → Type 0
+Kept old new = (outputs_of new ≡ outputs_of old) × OnlyDie old.devices new.devices
+
+-- where there is an answer
 abbrev pub Keeps : {X E : Type 0} → (X → Files) → Files → Result X E → Type 0
 Keeps of files (Err error) = Unit {0}
-Keeps of files (Ok x) = outputs_of (of x) ≡ outputs_of files
+Keeps of files (Ok x) = Kept files (of x)
 
 abbrev pub done_files : {A : Type 0} → Done A → Files
 done_files it = it.files
@@ -75,26 +103,26 @@ keeps_then : {X Y : Type 0} (of : X → Files) (files : Files) (r : Result Y Err
 keeps_then of files (Err errno) go all = tt
 keeps_then of files (Ok y) go all = all y
 
-let_go_same : (target : Target) (files : Files) → outputs_of (let_go target files) ≡ outputs_of files
-let_go_same (targets.Node inode) files = refl
-let_go_same (targets.Device device) files = dead_same files.devices device
+let_go_same : (target : Target) (files : Files) → Kept files (let_go target files)
+let_go_same (targets.Node inode) files = (refl, λ device lives. lives)
+let_go_same (targets.Device device) files = (dead_same files.devices device, dead_dies files.devices device)
 
-without_same : (number : ℕ) (o : Option Description) (files : Files) → outputs_of (without_description number o files) ≡ outputs_of files
-without_same number None files = refl
+without_same : (number : ℕ) (o : Option Description) (files : Files) → Kept files (without_description number o files)
+without_same number None files = (refl, λ device lives. lives)
 without_same number (Some gone) files = let_go_same gone.target _
 
-either_same : (b : Bool) (files one other : Files) → outputs_of one ≡ outputs_of files → outputs_of other ≡ outputs_of files → outputs_of (if b then one else other) ≡ outputs_of files
+either_same : (b : Bool) (files one other : Files) → Kept files one → Kept files other → Kept files (if b then one else other)
 either_same true files one other first second = first
 either_same false files one other first second = second
 
-swept_same : (number : ℕ) (files : Files) → outputs_of (swept number files) ≡ outputs_of files
-swept_same number files = either_same (is_named number files.descriptors) files files (without_description number (at files.descriptions number) files) refl (without_same number (at files.descriptions number) files)
+swept_same : (number : ℕ) (files : Files) → Kept files (swept number files)
+swept_same number files = either_same (is_named number files.descriptors) files files (without_description number (at files.descriptions number) files) (refl, λ device lives. lives) (without_same number (at files.descriptions number) files)
 
-closed_by_same : (fd : ℕ) (o : Option Descriptor) (files : Files) → outputs_of (closed_by fd o files) ≡ outputs_of files
-closed_by_same fd None files = refl
+closed_by_same : (fd : ℕ) (o : Option Descriptor) (files : Files) → Kept files (closed_by fd o files)
+closed_by_same fd None files = (refl, λ device lives. lives)
 closed_by_same fd (Some descriptor) files = swept_same descriptor.description (with_descriptor fd None files)
 
-closed_same : (fd : ℕ) (files : Files) → outputs_of (closed fd files) ≡ outputs_of files
+closed_same : (fd : ℕ) (files : Files) → Kept files (closed fd files)
 unfolding closed
 closed_same fd files = closed_by_same fd (at files.descriptors fd) files
 
@@ -108,7 +136,7 @@ close_keeps fd files = close_by_keeps fd (at files.descriptors fd) files
 
 dup_at_keeps : (to : Option ℕ) (descriptor : Descriptor) (closes : Bool) (files : Files) → Keeps done_files files (dup_at to descriptor closes files)
 dup_at_keeps None descriptor closes files = tt
-dup_at_keeps (Some to) descriptor closes files = refl
+dup_at_keeps (Some to) descriptor closes files = (refl, λ device lives. lives)
 
 dup_by_keeps : (o : Option Descriptor) (least : ℕ) (closes : Bool) (files : Files) → Keeps done_files files (dup_by o least closes files)
 dup_by_keeps None least closes files = tt
@@ -128,7 +156,7 @@ dup_to_keeps fd to closes files = keeps_if done_files files (fd == to) _ _ tt (d
 
 marked_by_keeps : (o : Option Descriptor) (fd : ℕ) (closes : Bool) (files : Files) → Keeps themselves files (marked_by o fd closes files)
 marked_by_keeps None fd closes files = tt
-marked_by_keeps (Some descriptor) fd closes files = refl
+marked_by_keeps (Some descriptor) fd closes files = (refl, λ device lives. lives)
 
 pub marked_keeps : (fd : ℕ) (closes : Bool) (files : Files) → Keeps themselves files (marked fd closes files)
 unfolding marked
@@ -136,16 +164,16 @@ marked_keeps fd closes files = marked_by_keeps (at files.descriptors fd) fd clos
 
 pub flags_keep : (fd flags : ℕ) (files : Files) → Keeps themselves files (with_flags fd flags files)
 unfolding with_flags
-flags_keep fd flags files = keeps_chosen themselves files (open_as fd files) _ _ tt (λ number it. refl)
+flags_keep fd flags files = keeps_chosen themselves files (open_as fd files) _ _ tt (λ number it. (refl, λ device lives. lives))
 
 -- ---- opening, and calls on paths
 
 open_kind_keeps : (kind : Option Kind) (fd inode flags : ℕ) (files : Files) → Keeps done_files files (open_kind kind fd inode flags files)
 open_kind_keeps None fd inode flags files = tt
-open_kind_keeps (Some Dir) fd inode flags files = keeps_if done_files files (changes flags) _ _ tt refl
+open_kind_keeps (Some Dir) fd inode flags files = keeps_if done_files files (changes flags) _ _ tt (refl, λ device lives. lives)
 open_kind_keeps (Some File) fd inode flags files =
     keeps_if done_files files (wants_directory flags) _ _ tt
-    (keeps_if done_files files (truncates flags) _ _ (keeps_then done_files files (truncated inode 0 files.tree) _ (λ tree. refl)) refl)
+    (keeps_if done_files files (truncates flags) _ _ (keeps_then done_files files (truncated inode 0 files.tree) _ (λ tree. (refl, λ device lives. lives))) (refl, λ device lives. lives))
 
 open_there_keeps : (fd inode flags : ℕ) (files : Files) → Keeps done_files files (open_there fd inode flags files)
 open_there_keeps fd inode flags files =
@@ -153,7 +181,7 @@ open_there_keeps fd inode flags files =
 
 open_made_keeps : (from : ℕ) (path : List ℕ) (flags fd : ℕ) (files : Files) → Keeps done_files files (open_made from path flags fd files)
 open_made_keeps from path flags fd files =
-    keeps_if done_files files (wants_directory flags) _ _ tt (keeps_then done_files files (made File from path files.tree) _ (λ tree. refl))
+    keeps_if done_files files (wants_directory flags) _ _ tt (keeps_then done_files files (made File from path files.tree) _ (λ tree. (refl, λ device lives. lives)))
 
 open_missing_keeps : (from : ℕ) (path : List ℕ) (flags fd : ℕ) (files : Files) → Keeps done_files files (if creates flags then open_made from path flags fd files else Err ENOENT)
 open_missing_keeps from path flags fd files = keeps_if done_files files (creates flags) _ _ (open_made_keeps from path flags fd files) tt
@@ -178,7 +206,7 @@ opened_keeps dir path flags files = keeps_if done_files files (are_wrong flags) 
 
 tree_keeps : (r : Result Tree Errno) (files : Files) → Keeps themselves files (put_tree r files)
 tree_keeps (Err errno) files = tt
-tree_keeps (Ok tree) files = refl
+tree_keeps (Ok tree) files = (refl, λ device lives. lives)
 
 pub dir_keeps : (dir : ℤ) (path : List ℕ) (files : Files) → Keeps themselves files (with_dir dir path files)
 unfolding with_dir
@@ -192,7 +220,7 @@ without_keeps dir path directory files = keeps_then themselves files (base dir p
 
 went_on_keeps : (number : ℕ) (it : Description) (files : Files) (r : Result (List ℕ) Errno) → Keeps done_files files (went_on number it files r)
 went_on_keeps number it files (Err errno) = tt
-went_on_keeps number it files (Ok bytes) = refl
+went_on_keeps number it files (Ok bytes) = (refl, λ device lives. lives)
 
 read_target_keeps : (target : Target) (number : ℕ) (it : Description) (size : ℕ) (files : Files) → Keeps done_files files (read_target target number it size files)
 read_target_keeps (targets.Node inode) number it size files = went_on_keeps number it files (file_read inode it.offset size files.tree)
@@ -205,7 +233,7 @@ read_keeps fd size files =
     (λ number it. keeps_if done_files files (not (can_read it.flags)) _ _ tt (read_target_keeps it.target number it size files))
 
 write_at_target_keeps : (target : Target) (flags offset : ℕ) (bytes : List ℕ) (files : Files) → Keeps done_files files (write_target_at target flags offset bytes files)
-write_at_target_keeps (targets.Node inode) flags offset bytes files = keeps_then done_files files (file_written inode (place_of flags inode offset files.tree) bytes files.tree) _ (λ tree. refl)
+write_at_target_keeps (targets.Node inode) flags offset bytes files = keeps_then done_files files (file_written inode (place_of flags inode offset files.tree) bytes files.tree) _ (λ tree. (refl, λ device lives. lives))
 write_at_target_keeps (targets.Device device) flags offset bytes files = tt
 
 pub write_at_keeps : (fd offset : ℕ) (bytes : List ℕ) (files : Files) → Keeps done_files files (write_at fd offset bytes files)
@@ -217,7 +245,7 @@ write_at_keeps fd offset bytes files =
 sought_keeps : (target : Target) (number : ℕ) (it : Description) (offset : ℤ) (whence : ℕ) (files : Files) → Keeps done_files files (sought target number it offset whence files)
 sought_keeps (targets.Device device) number it offset whence files = tt
 sought_keeps (targets.Node inode) number it offset whence files =
-    keeps_then done_files files (counted_from whence inode it files.tree) _ (λ from. keeps_then done_files files (lawful (pos from +ℤ offset)) _ (λ to. refl))
+    keeps_then done_files files (counted_from whence inode it files.tree) _ (λ from. keeps_then done_files files (lawful (pos from +ℤ offset)) _ (λ to. (refl, λ device lives. lives)))
 
 pub seek_keeps : (fd : ℕ) (offset : ℤ) (whence : ℕ) (files : Files) → Keeps done_files files (seek fd offset whence files)
 unfolding seek
@@ -228,7 +256,7 @@ seek_keeps fd offset whence files =
 cut_kind_keeps : (kind : Option Kind) (inode flags size : ℕ) (files : Files) → Keeps themselves files (cut_kind kind inode flags size files)
 cut_kind_keeps None inode flags size files = tt
 cut_kind_keeps (Some Dir) inode flags size files = tt
-cut_kind_keeps (Some File) inode flags size files = keeps_if themselves files (not (can_write flags)) _ _ tt (keeps_then themselves files (truncated inode size files.tree) _ (λ tree. refl))
+cut_kind_keeps (Some File) inode flags size files = keeps_if themselves files (not (can_write flags)) _ _ tt (keeps_then themselves files (truncated inode size files.tree) _ (λ tree. (refl, λ device lives. lives)))
 
 cut_keeps : (target : Target) (flags size : ℕ) (files : Files) → Keeps themselves files (cut target flags size files)
 cut_keeps (targets.Device device) flags size files = tt
@@ -240,7 +268,7 @@ truncate_keeps fd size files = keeps_chosen themselves files (open_as fd files) 
 
 listed_keeps : (number : ℕ) (it : Description) (files : Files) (r : Result Listed Errno) → Keeps done_files files (listed_on number it files r)
 listed_keeps number it files (Err errno) = tt
-listed_keeps number it files (Ok listed) = refl
+listed_keeps number it files (Ok listed) = (refl, λ device lives. lives)
 
 pub list_keeps : (fd room : ℕ) (files : Files) → Keeps done_files files (list fd room files)
 unfolding list
@@ -255,18 +283,18 @@ GoesOn old new = (device : ℕ) × (more : List ℕ) × (new ≡ set old device 
 
 abbrev pub Grows : {E : Type 0} → Files → Result (Done ℕ) E → Type 0
 Grows files (Err error) = Unit {0}
-Grows files (Ok it) = GoesOn (outputs_of files) (outputs_of it.files)
+Grows files (Ok it) = GoesOn (outputs_of files) (outputs_of it.files) × OnlyDie files.devices it.files.devices
 
 same_goes_on : (old new : List (List ℕ)) → new ≡ old → GoesOn old new
 same_goes_on old new same = (0, [], same ∙ sym (ap (set old 0) (append-nil (get_or old 0 [])) ∙ same_set old 0))
 
 node_grows : (inode number : ℕ) (it : Description) (bytes : List ℕ) (files : Files) (r : Result Tree Errno) → Grows files (and_then r (λ tree. Ok (done (moved number (past it.offset (place_of it.flags inode it.offset files.tree) (length bytes)) it (with_tree tree files)) (length bytes))))
 node_grows inode number it bytes files (Err errno) = tt
-node_grows inode number it bytes files (Ok tree) = same_goes_on _ _ refl
+node_grows inode number it bytes files (Ok tree) = (same_goes_on _ _ refl, λ device lives. lives)
 
 target_grows : (target : Target) (number : ℕ) (it : Description) (bytes : List ℕ) (files : Files) → Grows files (write_target target number it bytes files)
 target_grows (targets.Node inode) number it bytes files = node_grows inode number it bytes files (file_written inode (place_of it.flags inode it.offset files.tree) bytes files.tree)
-target_grows (targets.Device device) number it bytes files = (device, bytes, written_more files.devices device bytes)
+target_grows (targets.Device device) number it bytes files = ((device, bytes, written_more files.devices device bytes), written_dies files.devices device bytes)
 
 grows_by : (b : Bool) (target : Target) (number : ℕ) (it : Description) (bytes : List ℕ) (files : Files) → Grows files (if b then Err EBADF else write_target target number it bytes files)
 grows_by true target number it bytes files = tt

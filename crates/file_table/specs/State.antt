@@ -1,7 +1,7 @@
 -- The descriptors of a process, what they name, its devices and its tree of files.
 -- Source: open(2): a descriptor names an open file description, and several may name one. The numbers of descriptions are
 -- the project's own.
-use Rattle.std.specs.Prelude.{ℕ, Bool, false, nat_lt, if◌then◌else◌, List, [], ◌∷◌, ◌++◌, length, get_or, map, set, Option, Some, None}
+use Rattle.std.specs.Prelude.{◌≡◌, ℕ, Bool, true, false, nat_lt, if◌then◌else◌, List, [], ◌∷◌, ◌++◌, length, get_or, map, set, slice_get, Option, Some, None}
 use Rattle.file_tree.specs.Nodes.{Tree}
 use Rattle.file_table.specs.declared.state.Descriptor.{Descriptor}
 use Rattle.file_table.specs.declared.state.Description.{Description}
@@ -53,3 +53,7 @@ output_of (Some device) = device.output
 abbrev pub lives_by : Option Device → Bool
 lives_by None = false
 lives_by (Some device) = device.live
+
+-- each device that lives lived before
+abbrev pub OnlyDie : List Device → List Device → Type 0
+OnlyDie old new = (device : ℕ) → lives_by (slice_get new device) ≡ true → lives_by (slice_get old device) ≡ true

@@ -1,5 +1,5 @@
--- That outputs only grow, at most one of them in an event.
-use Rattle.file_table.specs.State.{outputs_of}
+-- That outputs only grow, at most one of them in an event, and that devices only die.
+use Rattle.file_table.specs.State.{OnlyDie, outputs_of}
 use Rattle.std.proofs.Common.{◌≡◌, ℕ, Some, refl, sym, subst}
 use Rattle.guest_core.specs.declared.calls.CallOutcome.{CallOutcome}
 use Rattle.guest_core.specs.declared.calls.CallOutcome.TheVariants.{Answers, Ends}
@@ -46,3 +46,31 @@ pub event_grows : (event : Event) (machine next : Machine) → event_after machi
 event_grows (Step id) machine next is =
     let was = happened id machine next is in
     subst (λ (m : Machine). Grows (outputs_of machine.shared.files) (outputs_of m.shared.files)) (sym was.next_is) (step_grows id was.thread was.row machine)
+
+-- ---- devices
+
+instruction_dies : (outcome : InstructionOutcome) (context : Context Thread) → OnlyDie context.shared.files.devices (after_instruction outcome context).shared.files.devices
+instruction_dies (Runs regs memory held) context = λ device lives. lives
+instruction_dies Calls context = λ device lives. lives
+instruction_dies (Faults fault) context = λ device lives. lives
+
+row_dies : (row : Row) (context : Context Thread) → OnlyDie context.shared.files.devices (done row context).shared.files.devices
+unfolding noted taken flag_cleared executed checked entered returned
+row_dies (Note instance) context = λ device lives. lives
+row_dies (Take instance) context = λ device lives. lives
+row_dies ClearFlag context = λ device lives. lives
+row_dies Execute context = instruction_dies (instruction_of context) context
+row_dies Check context = λ device lives. lives
+row_dies Enter context =
+    let made = called context.id context.self.regs context.shared in
+    subst (λ (shared : Shared). OnlyDie context.shared.files.devices shared.files.devices) (sym (call_shared made.outcome made.shared context)) (called_owes context.id context.self.regs context.shared).lives
+row_dies (Return answer) context = λ device lives. lives
+
+step_dies : (id : ℕ) (thread : Thread) (row : Row) (machine : Machine) → OnlyDie machine.shared.files.devices (settled (put id (done row (context_of id thread (ticked machine))) (ticked machine))).shared.files.devices
+unfolding settled ticked
+step_dies id thread row machine = row_dies row (context_of id thread (ticked machine))
+
+pub event_dies : (event : Event) (machine next : Machine) → event_after machine event ≡ Some next → OnlyDie machine.shared.files.devices next.shared.files.devices
+event_dies (Step id) machine next is =
+    let was = happened id machine next is in
+    subst (λ (m : Machine). OnlyDie machine.shared.files.devices m.shared.files.devices) (sym was.next_is) (step_dies id was.thread was.row machine)

@@ -11,6 +11,7 @@ use Rattle.guest_pages.specs.Apart.{IsApart}
 use Rattle.guest_core.specs.Start.{Program, first_memory, program_of, started, trampoline_bytes, with_trampoline}
 use Rattle.guest_pages.specs.Limits.{trampoline, stack_length, stack_end}
 use Rattle.guest_pages.specs.Faults.{changeable, runnable}
+use Rattle.file_table.specs.State.{Files}
 use Rattle.guest_core.specs.Machine.{first_thread}
 use Rattle.guest_core.specs.System.{live_ids}
 use Rattle.isa_step.specs.Known.{IsKnown}
@@ -27,9 +28,9 @@ first_apart elf args env =
     apart_written _ _ _ (apart_written _ _ _ (apart_placed (stack_end - stack_length) stack_length changeable _ refl page))
 
 -- so a start keeps what every state keeps, where nothing that isn't there is remembered
-pub start_sound : (elf : Elf) (args env : List (List ℕ)) (devices : ℕ) (known : List Known) → ((memory : List Range) → All (IsKnown memory) known) → IsSound (started (program_of (image elf) args env) devices) known
+pub start_sound : (elf : Elf) (args env : List (List ℕ)) (files : Files) (known : List Known) → ((memory : List Range) → All (IsKnown memory) known) → IsSound (started (program_of (image elf) args env) files) known
 unfolding started
-start_sound elf args env devices known all =
+start_sound elf args env files known all =
     let apart = first_apart elf args env in
     record {
       keeps = record {
@@ -41,6 +42,6 @@ start_sound elf args env devices known all =
       right = all (first_memory (program_of (image elf) args env));
     }
 
-pub start_ids : (program : Program) (devices : ℕ) → live_ids (started program devices) ≡ first_thread ∷ []
+pub start_ids : (program : Program) (files : Files) → live_ids (started program files) ≡ first_thread ∷ []
 unfolding started
-start_ids program devices = refl
+start_ids program files = refl

@@ -1,7 +1,7 @@
 -- The state in which a program starts.
 -- Source: System V ABI, "Program Loading" and "Process Initialization"; RISC-V ELF psABI. That the other registers start as 0,
 -- the trampoline, through which handlers will return, and the bound of pages are the project's own.
-use Rattle.std.specs.Prelude.{◌≡◌, ◌<◌, ◌≤◌, ℕ, ◌+◌, ◌-◌, ◌^◌, ◌++◌, min, Bool, false, List, [], Option, None, Result, Ok, Err}
+use Rattle.std.specs.Prelude.{◌≡◌, ◌<◌, ◌≤◌, ℕ, ◌+◌, ◌-◌, ◌^◌, ◌++◌, min, Bool, false, List, [], Result, Ok, Err}
 use Rattle.byteorder.specs.Endian.{little_bytes}
 use Rattle.elf_file.specs.Reading.{Image}
 use Rattle.guest_pages.specs.declared.rights.Rights.{Rights}
@@ -11,8 +11,6 @@ use Rattle.segment_load.specs.Wanted.{pages_of}
 use Rattle.start_stack.specs.Placing.{with_stack, stack_pointer, stack_size, told_size}
 use Rattle.guest_pages.specs.Limits.{most_pages, most_stack_bytes, page_size, trampoline}
 use Rattle.guest_pages.specs.Faults.{changeable, runnable}
-use Rattle.file_tree.specs.Nodes.{new_tree}
-use Rattle.file_table.specs.Opening.{started as opened_first}
 use Rattle.file_table.specs.State.{Files}
 use Rattle.host_calls.specs.Breaks.{break_behind}
 use Rattle.host_calls.specs.Queue.{empty_queue}
@@ -51,16 +49,12 @@ first_memory program =
 
 -- ---- the state
 
--- the tree has the root alone, and device d is open as descriptor d
-abbrev pub first_files : ℕ → Files
-first_files devices = opened_first new_tree devices None
-
--- what the system has at first
-abbrev pub first_shared : Program → ℕ → Shared
-first_shared program devices = record {
+-- what the system has at first, with these files
+abbrev pub first_shared : Program → Files → Shared
+first_shared program files = record {
   memory = first_memory program;
   held = joined first_thread [];
-  files = first_files devices;
+  files = files;
   queue = empty_queue;
   program_break = break_behind program.image.top;
   drawn = 16;
@@ -71,8 +65,8 @@ first_shared program devices = record {
 abbrev pub first_regs : Program → Registers
 first_regs program = with_register 2 (stack_pointer program.args program.env) (starting_at program.image.entry)
 
-unfoldable pub started : Program → ℕ → Machine
-started program devices = alone (first_shared program devices) first_thread (record {
+unfoldable pub started : Program → Files → Machine
+started program files = alone (first_shared program files) first_thread (record {
   regs = first_regs program;
   place = Loop;
   flag = false;
@@ -111,9 +105,9 @@ Refuses program (PagesFull wanted) =
 Refuses program Memory = Unit {0}
 
 -- a start is made where the stack and the pages suffice, and refused where they don't
-abbrev pub Starts : Program → ℕ → Result Machine StartFault → Type 0
-Starts program devices (Ok machine) = (machine ≡ started program devices) × FitsIn program
-Starts program devices (Err fault) = Refuses program fault
+abbrev pub Starts : Program → Files → Result Machine StartFault → Type 0
+Starts program files (Ok machine) = (machine ≡ started program files) × FitsIn program
+Starts program files (Err fault) = Refuses program fault
 
 -- a program of a file that was read, with its arguments and environment
 abbrev pub program_of : Image → List (List ℕ) → List (List ℕ) → Program

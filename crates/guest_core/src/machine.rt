@@ -1,4 +1,4 @@
-ghost use Rattle.file_table.specs.State.{outputs_of};
+ghost use Rattle.file_table.specs.State.{OnlyDie, lives_by, outputs_of};
 ghost use Rattle.std.specs.Prelude.{◌≡◌, ◌≤◌, ◌<◌, replicate, [], ◌∷◌, None, Some, length, map, take, slice_get, slice_index_or, is_none, ◌==◌, OnOk, OnErr, IfErr, IfSome, IsOk};
 ghost use Rattle.std.specs.Option.{option_copied, option_map};
 ghost use Rattle.guest_core.specs.Event.{is_enabled, event_after, run};
@@ -14,6 +14,7 @@ use crate::events::Event;
 use crate::places::Place;
 use crate::state::{State, place_of};
 use crate::thread::Thread;
+use file_tree::Tree;
 use host_calls::Host;
 use isa_exec::Regs;
 use isa_step::Decoder;
@@ -81,6 +82,7 @@ impl Core {
         ensures live { self.old.end ≡ None → Lives self.old event.now → result ≡ Err CoreRefusal.NotNow → ⊥ }
         ensures steady { TakesNoMemory self.old event.now → IsOk result }
         ensures outputs { OnOk result (Grows (outputs_of self.old.shared.files) (outputs_of self.new.shared.files)) }
+        ensures lives { OnOk result (OnlyDie self.old.shared.files.devices self.new.shared.files.devices) }
         ensures code { OnOk result (KeepsCode self.old.shared.memory self.new.shared.memory) }
     {
         match *event {
@@ -97,6 +99,7 @@ impl Core {
         ensures live { self.old.end ≡ None → Lives self.old (Event.Step thread) → result ≡ Err CoreRefusal.NotNow → ⊥ }
         ensures steady { TakesNoMemory self.old (Event.Step thread) → IsOk result }
         ensures outputs { OnOk result (Grows (outputs_of self.old.shared.files) (outputs_of self.new.shared.files)) }
+        ensures lives { OnOk result (OnlyDie self.old.shared.files.devices self.new.shared.files.devices) }
         ensures code { OnOk result (KeepsCode self.old.shared.memory self.new.shared.memory) }
     {
         if self.state.end.is_some() {
@@ -119,7 +122,7 @@ impl Core {
         ensures ran { run (Some self.old) (replicate result (Event.Step thread)) ≡ Some self.new }
         ensures plain { AllGoOn thread self.old result }
         ensures stops { result < limit → GoesOn thread self.new → ⊥ }
-        ensures outputs { (outputs_of self.new.shared.files) ≡ (outputs_of self.old.shared.files) }
+        ensures files { self.new.shared.files ≡ self.old.shared.files }
         ensures end { self.new.end ≡ self.old.end }
         ensures code { KeepsCode self.old.shared.memory self.new.shared.memory }
     {
@@ -245,5 +248,19 @@ impl Core {
         ensures { result.now ≡ slice_index_or (outputs_of self.now.shared.files) device [] }
     {
         self.state.host.files.output(device)
+    }
+
+    /// Whether a device lives: from the start until its last description goes. One that isn't there doesn't.
+    pub fn live(&self, device: usize) -> bool
+        ensures { result ≡ lives_by (slice_get self.now.shared.files.devices device) }
+    {
+        self.state.host.files.live(device)
+    }
+
+    /// The tree of files.
+    pub fn tree(&self) -> &Tree
+        ensures { result.now ≡ self.now.shared.files.tree }
+    {
+        self.state.host.files.tree()
     }
 }

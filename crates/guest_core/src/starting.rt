@@ -1,6 +1,6 @@
 ghost use Rattle.std.specs.Prelude.{◌≡◌, ◌≤◌, ◌<◌, length, IfOk, OnOk};
 ghost use Rattle.elf_file.specs.Reading.{image};
-ghost use Rattle.guest_core.specs.Start.{first_files, first_memory, program_of, started, with_trampoline, FitsIn, HasRoom, Starts};
+ghost use Rattle.guest_core.specs.Start.{first_memory, program_of, started, with_trampoline, FitsIn, HasRoom, Starts};
 ghost use Rattle.guest_core.specs.Kept.{Keeps};
 ghost use Rattle.guest_core.specs.State.{machine};
 ghost use Rattle.start_stack.specs.Placing.{stack_pointer};
@@ -11,7 +11,7 @@ use crate::state::State;
 use crate::thread::Thread;
 use elf_file::Elf;
 use file_table::Files;
-use file_tree::{Text, Tree};
+use file_tree::Text;
 use guest_pages::{
     CHANGEABLE, MOST_PAGES, MOST_STACK_BYTES, MapFault, Pages, RUNNABLE, STACK_PAGES, TRAMPOLINE,
 };
@@ -44,7 +44,7 @@ pub enum StartFault {
 }
 
 /// The state in which a program starts: its file, its arguments, of which the first is its name, its environment, and the
-/// number of its devices. It costs by the pages and bytes of the file's segments, and by those of the first stack.
+/// files that it finds, with its devices. It costs by the pages and bytes of the file's segments, and by those of the first stack.
 ///
 /// References: System V ABI, "Program Loading" and "Process Initialization".
 #[tactic(auto, unfolding(crate::specs::Start::wanted_pages))]
@@ -53,11 +53,10 @@ pub fn start(
     elf: &Elf,
     args: &[Text],
     env: &[Text],
-    devices: usize,
+    files: Files,
 ) -> Result<Core, StartFault>
-    requires devices { devices ≤ 8 }
     requires name { 0 < length args.now }
-    ensures starts { Starts (program_of (image elf.now) args.now env.now) devices result }
+    ensures starts { Starts (program_of (image elf.now) args.now env.now) files result }
     ensures keeps { IfOk result Keeps }
 {
     let size = size_of(args, env);
@@ -68,7 +67,7 @@ pub fn start(
     if wanted > MOST_PAGES {
         return Err(StartFault::PagesFull { wanted });
     }
-    let state = match state_of(alloc, elf, args, env, devices) {
+    let state = match state_of(alloc, elf, args, env, files) {
         Ok(state) => state,
         Err(_) => return Err(StartFault::Memory),
     };
@@ -84,17 +83,15 @@ fn state_of(
     elf: &Elf,
     args: &[Text],
     env: &[Text],
-    devices: usize,
+    files: Files,
 ) -> Result<State, AllocError>
-    requires devices { devices ≤ 8 }
     requires name { 0 < length args.now }
     requires fits { FitsIn (program_of (image elf.now) args.now env.now) }
-    ensures { IfOk result (λ state. machine state ≡ started (program_of (image elf.now) args.now env.now) devices) }
+    ensures { IfOk result (λ state. machine state ≡ started (program_of (image elf.now) args.now env.now) files) }
 {
     let (pages, pointer) = memory_of(alloc, elf, args, env)?;
     let mut held = Reservations::new(alloc);
     held.add_thread(FIRST_THREAD)?;
-    let files = files_of(alloc, devices)?;
     let mut regs = Regs::starting_at(elf.entry);
     regs.set_register(2, pointer);
     let mut threads = Vec::new(alloc);
@@ -117,15 +114,6 @@ fn state_of(
         end: None,
         threads,
     })
-}
-
-/// The files at first: an empty tree, and each device as the descriptor of its number.
-fn files_of(alloc: Global, devices: usize) -> Result<Files, AllocError>
-    requires { devices ≤ 8 }
-    ensures { IfOk result (λ files. files ≡ first_files devices) }
-{
-    let tree = Tree::new(alloc)?;
-    Files::new(alloc, tree, devices, None)
 }
 
 /// The first memory, and the stack pointer.

@@ -1,8 +1,9 @@
 use super::*;
 use elf_build::whole_program;
 use elf_file::{Elf, read};
-use file_tree::Text;
-use std::alloc::Global;
+use file_table::Files;
+use file_tree::{Text, Tree};
+use std::alloc::{AllocError, Global};
 use std::test::Fail;
 
 /// `li a0,7; li a7,94; ecall`, which stand at 0x10078.
@@ -10,11 +11,17 @@ const EXITS: [u32; 3] = [0x0070_0513, 0x05E0_0893, 0x0000_0073];
 
 const STEP: Event = Event::Step(FIRST_THREAD);
 
+/// An empty tree, and three devices as descriptors 0 to 2.
+fn files(alloc: Global) -> Result<Files, AllocError> {
+    let tree = Tree::new(alloc)?;
+    Files::new(alloc, tree, 3, None)
+}
+
 fn started(alloc: Global) -> Result<Core, Fail> {
     let bytes = whole_program(alloc, &EXITS, &[])?;
     let elf: Elf = read(alloc, &bytes)?;
     let name = [Text::new(alloc, "a")?];
-    Ok(start(alloc, &elf, &name, &[], 3)?)
+    Ok(start(alloc, &elf, &name, &[], files(alloc)?)?)
 }
 
 #[test]

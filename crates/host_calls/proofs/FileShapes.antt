@@ -109,7 +109,7 @@ taken_at_owes : (thread : ℕ) (pieces : List Piece) (r : Result (List ℕ) Errn
 taken_at_owes thread pieces (Err errno) shared good = answers_alone thread shared
 taken_at_owes thread pieces (Ok bytes) shared good =
     stores_all thread shared (with_stored (scattered thread pieces bytes (stored_of shared)) shared)
-    (scattered_stays thread pieces bytes (stored_of shared) good) (scattered_eased thread pieces bytes (stored_of shared)) refl refl refl
+    (scattered_stays thread pieces bytes (stored_of shared) good) (scattered_eased thread pieces bytes (stored_of shared)) (refl, λ device lives. lives) refl refl
 
 pub reads_at_offset : (thread fd at wish offset : ℕ) (shared : Shared) → Owes thread shared (unreserved thread (pread64 thread fd at wish offset shared).shared)
 unfolding pread64

@@ -4,8 +4,8 @@ use Rattle.std.proofs.lemmas.Bool.Decides.{nat_tests}
 use Rattle.std.proofs.lemmas.List.{set-get_or}
 use Rattle.file_tree.specs.declared.errno.Errno.{Errno}
 use Rattle.file_tree.specs.declared.errno.Errno.TheVariants.{EACCES, ENOMEM}
-use Rattle.file_table.specs.State.{Files, outputs_of}
-use Rattle.file_table.proofs.OutputFacts.{GoesOn}
+use Rattle.file_table.specs.State.{Files, OnlyDie, outputs_of}
+use Rattle.file_table.proofs.OutputFacts.{GoesOn, Kept}
 use Rattle.guest_pages.specs.declared.fault.PageFault.{PageFault}
 use Rattle.guest_pages.specs.Apart.{IsApart, Stays}
 use Rattle.guest_pages.specs.Cells.{Cell}
@@ -98,6 +98,10 @@ eased_end thread [] (new ∷ news) eased = absurd eased
 eased_end thread (old ∷ olds) [] eased = absurd eased
 eased_end thread (old ∷ olds) (new ∷ news) eased = (ended_by (new.thread == thread) thread old new refl eased.0, eased_end thread olds news eased.1)
 
+-- files that are the same keep what they owe
+same_kept : (old new : Files) → new ≡ old → Kept old new
+same_kept old new same = subst (Kept old) (sym same) (refl, λ device lives. lives)
+
 pub own_ends : (thread : ℕ) (held : List Held) → OnlyEnd thread held (reserving thread None held)
 own_ends thread held = eased_end thread held held (eased_same held)
 
@@ -108,6 +112,7 @@ pub answers_alone : (thread : ℕ) (shared : Shared) → Owes thread shared (unr
 answers_alone thread shared = record {
   memory = λ apart. same_stays shared.memory shared.memory apart refl;
   outputs = same_grows (outputs_of shared.files) (outputs_of shared.files) refl;
+  lives = λ device lives. lives;
   held = own_ends thread shared.held;
   queue = same_sends shared.queue shared.queue refl;
   clock = refl;
@@ -118,16 +123,18 @@ pub changes_memory : (thread : ℕ) (old new : Shared) → (IsApart old.memory �
 changes_memory thread old new stays held files queue clock = record {
   memory = stays;
   outputs = same_grows (outputs_of old.files) (outputs_of new.files) (ap outputs_of files);
+  lives = (same_kept old.files new.files files).1;
   held = subst (λ (h : List Held). OnlyEnd thread old.held (reserving thread None h)) (sym held) (own_ends thread old.held);
   queue = same_sends old.queue new.queue queue;
   clock = clock;
 }
 
 -- it stores bytes, which may end reservations of others, and may go on in files
-pub stores_all : (thread : ℕ) (old new : Shared) → (IsApart old.memory → Stays old.memory new.memory) → AllEased old.held new.held → outputs_of new.files ≡ outputs_of old.files → new.queue ≡ old.queue → new.clock ≡ old.clock → Owes thread old (unreserved thread new)
+pub stores_all : (thread : ℕ) (old new : Shared) → (IsApart old.memory → Stays old.memory new.memory) → AllEased old.held new.held → Kept old.files new.files → new.queue ≡ old.queue → new.clock ≡ old.clock → Owes thread old (unreserved thread new)
 stores_all thread old new stays held files queue clock = record {
   memory = stays;
-  outputs = same_grows (outputs_of old.files) (outputs_of new.files) files;
+  outputs = same_grows (outputs_of old.files) (outputs_of new.files) files.0;
+  lives = files.1;
   held = eased_end thread old.held new.held held;
   queue = same_sends old.queue new.queue queue;
   clock = clock;
@@ -137,23 +144,25 @@ pub stores_bytes : (thread at : ℕ) (bytes : List ℕ) (old new : Shared) → f
 stores_bytes thread at bytes old new good memory held files queue clock = stores_all thread old new
     (λ apart. subst (Stays old.memory) (sym memory) (written_stays at bytes old.memory apart good))
     (subst (AllEased old.held) (sym held) (eased_store thread at (length bytes) old.held old.held (eased_same old.held)))
-    (ap outputs_of files) queue clock
+    (same_kept old.files new.files files) queue clock
 
 -- it changes files, and writes nothing to devices
-pub changes_files : (thread : ℕ) (files : Files) (shared : Shared) → outputs_of files ≡ outputs_of shared.files → Owes thread shared (unreserved thread (with_files files shared))
+pub changes_files : (thread : ℕ) (files : Files) (shared : Shared) → Kept shared.files files → Owes thread shared (unreserved thread (with_files files shared))
 changes_files thread files shared same = record {
   memory = λ apart. same_stays shared.memory shared.memory apart refl;
-  outputs = same_grows (outputs_of shared.files) (outputs_of files) same;
+  outputs = same_grows (outputs_of shared.files) (outputs_of files) same.0;
+  lives = same.1;
   held = own_ends thread shared.held;
   queue = same_sends shared.queue shared.queue refl;
   clock = refl;
 }
 
 -- it writes to a device
-pub writes_out : (thread : ℕ) (files : Files) (shared : Shared) → GoesOn (outputs_of shared.files) (outputs_of files) → Owes thread shared (unreserved thread (with_files files shared))
+pub writes_out : (thread : ℕ) (files : Files) (shared : Shared) → GoesOn (outputs_of shared.files) (outputs_of files) × OnlyDie shared.files.devices files.devices → Owes thread shared (unreserved thread (with_files files shared))
 writes_out thread files shared goes = record {
   memory = λ apart. same_stays shared.memory shared.memory apart refl;
-  outputs = record { device = goes.0; more = goes.1; grown = goes.2 };
+  outputs = record { device = goes.0.0; more = goes.0.1; grown = goes.0.2 };
+  lives = goes.1;
   held = own_ends thread shared.held;
   queue = same_sends shared.queue shared.queue refl;
   clock = refl;

@@ -1,7 +1,7 @@
 -- What every call owes, over what the system has before and after it.
 -- The project's own.
 use Rattle.std.specs.Prelude.{◌≡◌, ◌⊎◌, ℕ, ◌==◌, false, List, [], ◌∷◌, None}
-use Rattle.file_table.specs.State.{outputs_of}
+use Rattle.file_table.specs.State.{OnlyDie, outputs_of}
 use Rattle.guest_pages.specs.Apart.{IsApart, Stays}
 use Rattle.word_memory.specs.declared.reservations.Held.{Held}
 use Rattle.host_calls.specs.Queue.{OnlySends}
@@ -29,6 +29,8 @@ pub record Owes (thread : ℕ) (old new : Shared) : Type 0 where
   pub memory : IsApart old.memory → Stays old.memory new.memory
   -- outputs only grow, and at most one does
   pub outputs : Grows (outputs_of old.files) (outputs_of new.files)
+  -- a device that lives lived before
+  pub lives : OnlyDie old.files.devices new.files.devices
   -- reservations only end, and its own does
   pub held : OnlyEnd thread old.held new.held
   -- of pending signals it only sends more

@@ -58,6 +58,7 @@ pub fn load_tree<F: Folder>(alloc: Global, folder: &mut F) -> Result<Loaded, Loa
     ensures later { F.failed_reads folder.old ≤ F.failed_reads folder.new }
     ensures still { OnOk result (F.failed_reads folder.new ≡ F.failed_reads folder.old) }
     ensures quiet { IfErr result (IsQuiet (F.failed_reads folder.old) (F.failed_reads folder.new)) }
+    ensures writes { F.failed_writes folder.new ≡ F.failed_writes folder.old }
 {
     let listed = match folder.list(alloc) {
         Ok(listed) => listed,
@@ -179,6 +180,7 @@ fn fill<F: Folder>(alloc: Global, folder: &mut F, listed: &[Listed]) -> Result<T
     ensures later { F.failed_reads folder.old ≤ F.failed_reads folder.new }
     ensures still { OnOk result (F.failed_reads folder.new ≡ F.failed_reads folder.old) }
     ensures quiet { IfErr result (IsQuiet (F.failed_reads folder.old) (F.failed_reads folder.new)) }
+    ensures writes { F.failed_writes folder.new ≡ F.failed_writes folder.old }
 {
     let mut tree = match Tree::new(alloc) {
         Ok(tree) => tree,
@@ -213,6 +215,7 @@ fn take<F: Folder>(
     ensures later { F.failed_reads folder.old ≤ F.failed_reads folder.new }
     ensures still { OnOk result (F.failed_reads folder.new ≡ F.failed_reads folder.old) }
     ensures quiet { IfErr result (IsQuiet (F.failed_reads folder.old) (F.failed_reads folder.new)) }
+    ensures writes { F.failed_writes folder.new ≡ F.failed_writes folder.old }
 {
     if is_own(entry) {
         return Ok(0);
@@ -238,6 +241,7 @@ fn put<F: Folder>(
     ensures later { F.failed_reads folder.old ≤ F.failed_reads folder.new }
     ensures still { OnOk result (F.failed_reads folder.new ≡ F.failed_reads folder.old) }
     ensures quiet { IfErr result (IsQuiet (F.failed_reads folder.old) (F.failed_reads folder.new)) }
+    ensures writes { F.failed_writes folder.new ≡ F.failed_writes folder.old }
 {
     match entry.kind {
         Kind::File => put_file(alloc, folder, tree, entry, before),
@@ -267,6 +271,7 @@ fn put_file<F: Folder>(
     ensures later { F.failed_reads folder.old ≤ F.failed_reads folder.new }
     ensures still { OnOk result (F.failed_reads folder.new ≡ F.failed_reads folder.old) }
     ensures quiet { IfErr result (IsQuiet (F.failed_reads folder.old) (F.failed_reads folder.new)) }
+    ensures writes { F.failed_writes folder.new ≡ F.failed_writes folder.old }
 {
     let mut bytes = Vec::new(alloc);
     match folder.read(entry.path.as_str(), &mut bytes) {

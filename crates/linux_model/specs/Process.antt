@@ -1,7 +1,7 @@
 -- A Linux process, as far as programs see it: a system of tasks. It knows no place, flag, window or journal: signals act on
 -- it directly, between two instructions.
 -- Source: signal(7); the form is the project's own.
-use Rattle.file_table.specs.State.{outputs_of}
+use Rattle.file_table.specs.State.{Files, outputs_of}
 use Rattle.std.specs.Prelude.{ℕ, List, Option}
 use Rattle.guest_core.specs.declared.ends.End.{End}
 use Rattle.guest_core.specs.Machine.{first_thread}
@@ -19,8 +19,8 @@ ProcessState = System Task
 -- ---- the start, and what is seen
 
 -- a process that starts a program
-unfoldable pub begun : Program → ℕ → ProcessState
-begun program devices = alone (first_shared program devices) first_thread (record { regs = first_regs program })
+unfoldable pub begun : Program → Files → ProcessState
+begun program files = alone (first_shared program files) first_thread (record { regs = first_regs program })
 
 -- what is seen of a run: the bytes written to each device, in order, and the end
 abbrev pub seen_outputs : ProcessState → List (List ℕ)

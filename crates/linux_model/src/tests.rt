@@ -1,9 +1,10 @@
 use super::*;
 use elf_build::whole_program;
 use elf_file::read;
-use file_tree::Text;
+use file_table::Files;
+use file_tree::{Text, Tree};
 use guest_core::{End, FIRST_THREAD, start};
-use std::alloc::Global;
+use std::alloc::{AllocError, Global};
 use std::test::Fail;
 
 /// Ends with 7: two instructions and a call.
@@ -18,12 +19,18 @@ const CALL: Label = Label::Call(FIRST_THREAD);
 /// The labels of that program's five steps, of which two have no label but a tick.
 const LABELS: [Label; 8] = [TICK, INSTR, TICK, INSTR, TICK, TICK, TICK, CALL];
 
+/// An empty tree, and three devices as descriptors 0 to 2.
+fn files(alloc: Global) -> Result<Files, AllocError> {
+    let tree = Tree::new(alloc)?;
+    Files::new(alloc, tree, 3, None)
+}
+
 /// The process of a file of these words, which stand at 0x10078, with data behind them.
 fn process(alloc: Global, words: &[u32], data: &[u8]) -> Result<Process, Fail> {
     let bytes = whole_program(alloc, words, data)?;
     let elf = read(alloc, &bytes)?;
     let name = [Text::new(alloc, "a")?];
-    Ok(Process::of(start(alloc, &elf, &name, &[], 3)?))
+    Ok(Process::of(start(alloc, &elf, &name, &[], files(alloc)?)?))
 }
 
 #[test]

@@ -29,14 +29,15 @@ impl Model for Process {
 
 impl Process {
     ghost use Rattle.std.specs.Prelude.{ℕ};
+    ghost use Rattle.file_table.specs.State.{Files};
     ghost use Rattle.guest_core.specs.Start.{Program, started};
     ghost use Rattle.linux_model.specs.Process.{begun};
 
     /// The process of a core as `start` left it.
     #[tactic(auto, unfolding(guest_core::specs::Start::started, crate::specs::Process::begun))]
     pub fn of(core: Core) -> Process
-        requires { (program : Program) × (devices : ℕ) × (core ≡ started program devices) }
-        ensures { (program : Program) (devices : ℕ) → core ≡ started program devices → result ≡ begun program devices }
+        requires { (program : Program) × (files : Files) × (core ≡ started program files) }
+        ensures { (program : Program) (files : Files) → core ≡ started program files → result ≡ begun program files }
     {
         let CoreParts { host, threads } = core.into_parts();
         let state = State {

@@ -6,11 +6,14 @@ ghost use Rattle.std.specs.Prelude.{◌≡◌, ◌≤◌, ◌∷◌, [], length,
 ghost use Rattle.emu_top.specs.Streams.{descriptors};
 
 #[cfg(test)]
+mod folder_tests;
+#[cfg(test)]
 mod hostile_tests;
 #[cfg(test)]
 mod tests;
 
 use cli_words::WordsFault;
+use dev_board::Devices;
 use emu_top::streams::{ErrorSink, Stream, StreamDevice};
 use emu_top::top::{refuse_words, solo_top};
 use image_store::RealFolder;
@@ -115,7 +118,7 @@ fn run(rt: &HostRuntime, words: &[String]) -> Result<u8, AllocError> {
         None => ".",
     };
     let mut folder = RealFolder::new(*rt, String::from_str(alloc, path)?);
-    let devices = devices(rt, alloc)?;
+    let devices = Devices::new(alloc, devices(rt, alloc)?)?;
     let mut notes = ErrorSink::new(rt.stderr());
     Ok(
         match solo_top(alloc, words, &mut folder, devices, &mut notes) {

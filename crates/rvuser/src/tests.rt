@@ -1,16 +1,15 @@
 ghost use Rattle.std.specs.Prelude.{◌≡◌, length, IfOk};
 
+use dev_board::{Devices, MemDevice};
 use elf_build::program;
 use elf_file::ElfFault;
+use emu_run::{Entry, Journal};
 use emu_top::cause::{Cause, Part};
-use emu_top::device::{Device, DeviceFailed};
-use emu_top::journal::{Entry, Journal};
-use emu_top::memory_device::MemDevice;
+use emu_top::ends::End;
 use emu_top::memory_sink::MemSink;
 use emu_top::sink::{Sink, SinkFailed};
 use emu_top::top::{Finished, TopFault, solo_top};
 use file_tree::Text;
-use guest_core::End;
 use image_store::{Entries, Entry as FolderEntry, FailingCalls, Kind, MemFolder};
 use le_fields::Bytes;
 use std::alloc::{AllocError, Global};
@@ -54,22 +53,22 @@ pub fn file_of(alloc: Global, words: &[u32], data: &[u8]) -> Result<Vec<u8>, All
 }
 
 /// Three devices, of which device 1 fails at the takes of these numbers.
-fn devices(alloc: Global, failing_takes: Vec<u64>) -> Result<Vec<MemDevice>, AllocError>
-    ensures { IfOk result (λ devices. length devices.items ≡ 3) }
+pub fn devices(alloc: Global, failing_takes: Vec<u64>) -> Result<Devices<MemDevice>, AllocError>
+    ensures { IfOk result (λ devices. length devices ≡ 3) }
 {
     let mut devices = Vec::new(alloc);
     devices.push(device(alloc, Vec::new(alloc)))?;
     devices.push(device(alloc, failing_takes))?;
     devices.push(device(alloc, Vec::new(alloc)))?;
-    Ok(devices)
+    Devices::new(alloc, devices)
 }
 
 fn device(alloc: Global, failing_takes: Vec<u64>) -> MemDevice {
     MemDevice::new(alloc, Vec::new(alloc), Vec::new(alloc), failing_takes)
 }
 
-/// What a device of a list holds.
-fn contents(devices: &[MemDevice], device: usize) -> &[u8] {
+/// What a device holds; nothing where it was let go.
+pub fn contents(devices: &Devices<MemDevice>, device: usize) -> &[u8] {
     match devices.get(device) {
         Some(device) => device.contents(),
         None => &[],
@@ -109,7 +108,7 @@ fn folder(
     }
 }
 
-fn words_of(alloc: Global, words: &[&str]) -> Result<Vec<String>, AllocError> {
+pub fn words_of(alloc: Global, words: &[&str]) -> Result<Vec<String>, AllocError> {
     let mut list = Vec::new(alloc);
     for word in words {
         list.push(String::from_str(alloc, word)?)?;
@@ -274,7 +273,7 @@ fn a_folder_that_fails(rt: HostRuntime) -> Result<(), Fail> {
             b"rvuser: read failed: folder\n".as_slice()
         );
         assert_eq!(rt; fault.journal.count(), 0);
-        assert_eq!(rt; fault.devices.len(), 3);
+        assert_eq!(rt; fault.devices.count(), 3);
     }
     Ok(())
 }
@@ -317,7 +316,7 @@ fn the_first_wrong_word(rt: HostRuntime) -> Result<(), Fail> {
         (&["solo", ".", "d/../p"], 2),
         (&["solo", ".", "./p"], 2),
         (&["solo", ".", "p", "p"], 3),
-        (&["solo", ".", "p", "--keep", "--keep"], 3),
+        (&["solo", ".", "p", "--keep", "--keep"], 4),
         (&["solo", ".", "p", "--budget"], 4),
         (&["solo", ".", "p", "--budget", "05"], 4),
         (&["solo", ".", "p", "--env", "=v"], 4),
@@ -508,17 +507,8 @@ fn the_first_fault_stays_where_it_cannot_be_told(rt: HostRuntime) -> Result<(), 
 }
 
 #[test]
-fn objects_in_memory(rt: HostRuntime) -> Result<(), Fail> {
+fn a_sink_in_memory(rt: HostRuntime) -> Result<(), Fail> {
     let alloc = rt.alloc();
-    let input = b"abc".to_vec(alloc)?;
-    let mut device = MemDevice::new(alloc, input, vec![in alloc; 1]?, Vec::new(alloc));
-    let mut buffer = [0; 2];
-    assert_eq!(rt; device.give(&mut buffer), Ok(2));
-    assert_eq!(rt; buffer, *b"ab");
-    assert_eq!(rt; device.give(&mut buffer), Err(DeviceFailed));
-    assert_eq!(rt; device.give(&mut buffer), Ok(1));
-    assert_eq!(rt; buffer, *b"cb");
-    assert_eq!(rt; device.give(&mut buffer), Ok(0));
     let mut sink = MemSink::new(alloc, vec![in alloc; 1]?);
     assert_eq!(rt; sink.put(b"ab"), Ok(()));
     assert_eq!(rt; sink.put(b"cd"), Err(SinkFailed));

@@ -14,6 +14,7 @@ loop-entry-init g c = record {
   within = omega arith;
   folder = refl;
   still = refl;
+  writes = refl;
 }
 
 pub take-requires-clause-plain : goal.take-requires-clause-plain
@@ -37,4 +38,5 @@ loop-entry-preserved g c = record {
   within = c.in-Ok-take.ensures.within;
   folder = c.in-Ok-take.ensures.tree ∙ c.loop-entry.invariant.folder;
   still = c.in-Ok-take.ensures.still ∙ c.loop-entry.invariant.still;
+  writes = c.in-Ok-take.ensures.writes ∙ c.loop-entry.invariant.writes;
 }

@@ -9,4 +9,5 @@ invariant-loop-entry g l = record {
   within : l.before ≤ 268435456;
   folder : g.F.Folder.tree l.folder ≡ g.F.Folder.tree l.fn.folder;
   still : g.F.Folder.failed_reads l.folder ≡ g.F.Folder.failed_reads l.fn.folder;
+  writes : g.F.Folder.failed_writes l.folder ≡ g.F.Folder.failed_writes l.fn.folder;
 }

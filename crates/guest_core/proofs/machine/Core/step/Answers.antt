@@ -8,7 +8,7 @@ use Rattle.guest_core.specs.declared.ends.End.{End}
 use Rattle.guest_core.specs.State.{machine, member_of}
 use Rattle.guest_core.specs.System.{found}
 use Rattle.guest_core.proofs.EnabledFacts.{gone_not, live_not_none, none_end, some_end_not}
-use Rattle.guest_core.proofs.OutputFacts.{event_grows}
+use Rattle.guest_core.proofs.OutputFacts.{event_dies, event_grows}
 use Rattle.guest_core.proofs.PlaceFacts.{rise_any}
 use Rattle.guest_core.proofs.SoundFacts.{event_code, try_sound}
 use Rattle.guest_core.proofs.StateFacts.{any_of, step_of, there_at}
@@ -47,6 +47,14 @@ returns-after-step-clause-outputs c = elim c.match-step.branch [
   | in-Ok w ↦
       let d = any_of c.self.inside.state.threads.items c.in-Some.place (within c) in
       rw (w.result-is, ← c.self.view_is) (event_grows (Step c.args.thread) (machine c.self.inside.state) (machine c.step.new.self) (ap (λ (n : ℕ). event_after (machine c.self.inside.state) (Step n)) (sym (its_id c d)) ∙ w.in-Ok.ensures.happens d))
+  | in-Err w ↦ rw w.result-is tt
+]
+
+pub returns-after-step-clause-lives : goal.returns-after-step-clause-lives
+returns-after-step-clause-lives c = elim c.match-step.branch [
+  | in-Ok w ↦
+      let d = any_of c.self.inside.state.threads.items c.in-Some.place (within c) in
+      rw (w.result-is, ← c.self.view_is) (event_dies (Step c.args.thread) (machine c.self.inside.state) (machine c.step.new.self) (ap (λ (n : ℕ). event_after (machine c.self.inside.state) (Step n)) (sym (its_id c d)) ∙ w.in-Ok.ensures.happens d))
   | in-Err w ↦ rw w.result-is tt
 ]
 

@@ -1,0 +1,5 @@
+use Rattle.std.proofs.Common.{rules}
+use Rattle.dev_board.proofs.board.give_at.Goals as goal
+
+pub returns : goal.returns
+returns g c = (c.in-Some.device, c.give.new.self, search rules, search rules, search rules)

@@ -1,7 +1,0 @@
-use Rattle.file_table.specs.State.{outputs_of}
-use Rattle.std.proofs.Common.{◌≤◌, ◌<◌, ℕ, [], length, slice_index, slice_index_or}
-use Rattle.emu_top.proofs.solo.longer.Given as goal
-
-abbrev pub invariant-loop-device : goal.invariant-loop-device
-invariant-loop-device l =
-    (k : ℕ) → k < l.device → length (slice_index_or (outputs_of l.core.shared.files) k []) ≤ slice_index l.before k
