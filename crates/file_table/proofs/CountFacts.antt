@@ -103,27 +103,27 @@ fewer_descriptions places ds fd named low free =
     let f = from_free 0 fd ds low free in
     omega arith
 
--- ---- the least number that no description has
+-- ---- the least number that nothing has
 
-vacant_low : (n : ℕ) (places : List (Option Description)) → n ≤ vacant_from n places
+vacant_low : {A : Type 0} → (n : ℕ) (places : List (Option A)) → n ≤ vacant_from n places
 unfolding vacant_from
 vacant_low n [] = omega arith
 vacant_low n (None ∷ ps) = omega arith
 vacant_low n (Some p ∷ ps) = let h = vacant_low (n + 1) ps in omega arith
 
-vacant_within : (n : ℕ) (places : List (Option Description)) → vacant_from n places ≤ n + length places
+vacant_within : {A : Type 0} → (n : ℕ) (places : List (Option A)) → vacant_from n places ≤ n + length places
 unfolding vacant_from
 vacant_within n [] = omega arith
 vacant_within n (None ∷ ps) = omega arith
 vacant_within n (Some p ∷ ps) = let h = vacant_within (n + 1) ps in omega arith
 
-vacant_count : (n : ℕ) (places : List (Option Description)) → vacant_from n places ≤ n + sum_by one_some places
+vacant_count : {A : Type 0} → (n : ℕ) (places : List (Option A)) → vacant_from n places ≤ n + sum_by one_some places
 unfolding vacant_from
 vacant_count n [] = omega arith
 vacant_count n (None ∷ ps) = omega arith
 vacant_count n (Some p ∷ ps) = let h = vacant_count (n + 1) ps in omega (arith, sum_by-cons one_some (Some p) ps)
 
-vacant_none : (n : ℕ) (places : List (Option Description)) → at places (vacant_from n places - n) ≡ None
+vacant_none : {A : Type 0} → (n : ℕ) (places : List (Option A)) → at places (vacant_from n places - n) ≡ None
 unfolding vacant_from
 vacant_none n [] = refl
 vacant_none n (None ∷ ps) = let e : n - n ≡ zero = omega arith in ap (λ (k : ℕ). at (None ∷ ps) k) e
@@ -132,21 +132,21 @@ vacant_none n (Some p ∷ ps) =
     let e : vacant_from (n + 1) ps - n ≡ suc (vacant_from (n + 1) ps - (n + 1)) = omega arith in
     ap (λ (k : ℕ). at (Some p ∷ ps) k) e ∙ vacant_none (n + 1) ps
 
-pub vacant_free : (places : List (Option Description)) → at places (vacant places) ≡ None
+pub vacant_free : {A : Type 0} → (places : List (Option A)) → at places (vacant places) ≡ None
 vacant_free places = let e : vacant places - 0 ≡ vacant places = omega arith in sym (ap (at places) e) ∙ vacant_none 0 places
 
-pub vacant_behind : (places : List (Option Description)) → vacant places ≤ length places
+pub vacant_behind : {A : Type 0} → (places : List (Option A)) → vacant places ≤ length places
 vacant_behind places = let h = vacant_within 0 places in omega arith
 
 -- where a descriptor is free, a number below 255 or 255 itself is
-pub vacant_few : (places : List (Option Description)) (ds : List (Option Descriptor)) (fd : ℕ) → ((number : ℕ) → IsSome (at places number) → is_named number ds ≡ true) → fd < length ds → at ds fd ≡ None → vacant places + 1 ≤ length ds
+pub vacant_few : {A : Type 0} → (places : List (Option A)) (ds : List (Option Descriptor)) (fd : ℕ) → ((number : ℕ) → IsSome (at places number) → is_named number ds ≡ true) → fd < length ds → at ds fd ≡ None → vacant places + 1 ≤ length ds
 vacant_few places ds fd named low free =
     let c = fewer_descriptions places ds fd named low free in
     let v = vacant_count 0 places in
     omega arith
 
 -- it is the first free place, or the one behind the last
-vacant_by : (n : ℕ) (places : List (Option Description)) → MatchOption (free_from 0 n places) (vacant_from n places ≡ n + length places) (λ k. vacant_from n places ≡ k)
+vacant_by : {A : Type 0} → (n : ℕ) (places : List (Option A)) → MatchOption (free_from 0 n places) (vacant_from n places ≡ n + length places) (λ k. vacant_from n places ≡ k)
 unfolding vacant_from free_from
 vacant_by n [] = omega arith
 vacant_by n (None ∷ ps) = by_low (nat_le 0 n) (le-leb 0 n (omega arith))
@@ -164,10 +164,10 @@ vacant_by n (Some p ∷ ps) = by_low (nat_le 0 n) (by_rest (free_from 0 (n + 1) 
     by_rest None h = omega arith
     by_rest (Some k) h = h
 
-pub vacant_found : (places : List (Option Description)) (k : ℕ) → free_place 0 places ≡ Some k → vacant places ≡ k
+pub vacant_found : {A : Type 0} → (places : List (Option A)) (k : ℕ) → free_place 0 places ≡ Some k → vacant places ≡ k
 vacant_found places k same = subst (λ (o : Option ℕ). MatchOption o (vacant places ≡ 0 + length places) (λ k. vacant places ≡ k)) same (vacant_by 0 places)
 
-pub vacant_end : (places : List (Option Description)) → free_place 0 places ≡ None → vacant places ≡ length places
+pub vacant_end : {A : Type 0} → (places : List (Option A)) → free_place 0 places ≡ None → vacant places ≡ length places
 vacant_end places same = let h : vacant places ≡ 0 + length places = subst (λ (o : Option ℕ). MatchOption o (vacant places ≡ 0 + length places) (λ k. vacant places ≡ k)) same (vacant_by 0 places) in omega arith
 
 -- an entry is held by no more than there are descriptions
@@ -182,6 +182,7 @@ one_low inode (Some it) = by_target it.target
     by_target : (t : Target) → one_in inode t ≤ 1
     by_target (targets.Node other) = by_test (other == inode)
     by_target (targets.Device device) = omega arith
+    by_target (targets.Pipe pipe writes) = omega arith
 
 pub few_holders : (inode : ℕ) (places : List (Option Description)) → holders inode places ≤ sum_by one_some places
 unfolding holders

@@ -1,6 +1,7 @@
 -- Places that are free, and descriptors that name a description.
 use Rattle.std.proofs.Common.{◌≡◌, ℕ, zero, suc, ◌+◌, ◌-◌, ◌<◌, ◌≤◌, ◌&&◌, not, Bool, true, false, nat_le, is_some, if◌then◌else◌, List, [], ◌∷◌, length, drop, set, Option, Some, None, refl, sym, ap, ◌∙◌, arith}
 use Rattle.std.specs.Prelude.{IfSome}
+use Rattle.std.proofs.lemmas.Bool.{leb-true}
 use Rattle.std.proofs.lemmas.List.{at_drop_more, drop_all}
 use Rattle.file_table.specs.declared.state.Description.{Description}
 use Rattle.file_table.specs.declared.state.Target.{Target}
@@ -46,14 +47,32 @@ free_by places (Some k) (low, high, none) = let z : k - 0 ≡ k = omega arith in
 pub place_is_free : {A : Type 0} → (least : ℕ) (places : List (Option A)) → IfSome (free_place least places) (λ k. (k < length places) × (at places k ≡ None))
 place_is_free least places = free_by places (free_place least places) (free_is least 0 places)
 
+-- and none below the least
+least_first : (least number : ℕ) (free : Bool) (rest : Option ℕ) → IfSome rest (λ k. least ≤ k) → IfSome (if nat_le least number && free then Some number else rest) (λ k. least ≤ k)
+least_first least number free rest more = by_test (nat_le least number) free refl
+  where
+    by_test : (a b : Bool) → nat_le least number ≡ a → IfSome (if a && b then Some number else rest) (λ k. least ≤ k)
+    by_test false b same = more
+    by_test true false same = more
+    by_test true true same = leb-true least number same
+
+least_is : {A : Type 0} → (least number : ℕ) (places : List (Option A)) → IfSome (free_from least number places) (λ k. least ≤ k)
+unfolding free_from
+least_is least number [] = tt
+least_is least number (place ∷ places) = least_first least number (not (is_some place)) (free_from least (number + 1) places) (least_is least (number + 1) places)
+
+pub place_is_least : {A : Type 0} → (least : ℕ) (places : List (Option A)) → IfSome (free_place least places) (λ k. least ≤ k)
+place_is_least least places = least_is least 0 places
+
 -- what goes with a description, and that descriptors stay where they are
 go_descriptors : (target : Target) (files : Files) → (let_go target files).descriptors ≡ files.descriptors
 go_descriptors (targets.Node inode) files = refl
 go_descriptors (targets.Device device) files = refl
+go_descriptors (targets.Pipe pipe writes) files = refl
 
 without_descriptors : (number : ℕ) (o : Option Description) (files : Files) → (without_description number o files).descriptors ≡ files.descriptors
 without_descriptors number None files = refl
-without_descriptors number (Some gone) files = go_descriptors gone.target (record { tree = files.tree; descriptors = files.descriptors; descriptions = set files.descriptions number None; devices = files.devices })
+without_descriptors number (Some gone) files = go_descriptors gone.target (record { tree = files.tree; descriptors = files.descriptors; descriptions = set files.descriptions number None; devices = files.devices; pipes = files.pipes })
 
 pub swept_descriptors : (number : ℕ) (files : Files) → (swept number files).descriptors ≡ files.descriptors
 swept_descriptors number files = by_named (is_named number files.descriptors)

@@ -5,6 +5,7 @@ pub mod ListFacts
 pub mod MoveFacts
 pub mod OutputFacts
 pub mod PeekFacts
+pub mod PipeFacts
 pub mod PlaceFacts
 pub mod RoomFacts
 pub mod SoundFacts

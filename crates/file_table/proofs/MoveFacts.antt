@@ -1,6 +1,6 @@
 -- Bytes that are moved, and offsets.
-use Rattle.std.proofs.Common.{◌≡◌, ℕ, ◌+◌, ◌<◌, ◌≤◌, max, List, ◌++◌, length, take, drop, refl, sym, ap, ◌∙◌, arith, length-take, length-drop}
-use Rattle.std.proofs.lemmas.List.{take_at, drop_at}
+use Rattle.std.proofs.Common.{◌≡◌, ℕ, ◌+◌, ◌<◌, ◌≤◌, max, min, List, ◌++◌, length, take, drop, refl, sym, ap, ◌∙◌, arith, length-take, length-drop}
+use Rattle.std.proofs.lemmas.List.{take_at, take_min, drop_at}
 use Rattle.std.proofs.Common.{nat_lt, Bool, true, false, if◌then◌else◌, Option, Some, None, Ok}
 use Rattle.std.proofs.lemmas.Bool.{ltb-false, ne_eqb}
 use Rattle.file_tree.specs.declared.errno.Errno.{Errno}
@@ -39,3 +39,12 @@ written_low file offset bytes tree new same some =
     let other : size_written (length (file_bytes tree.nodes file)) offset (length bytes) ≡ max (length (file_bytes tree.nodes file)) (offset + length bytes) =
     ap (λ (b : Bool). if b then length (file_bytes tree.nodes file) else max (length (file_bytes tree.nodes file)) (offset + length bytes)) (ne_eqb (length bytes) 0 (λ none. absurd (omega arith))) in
     omega arith
+
+-- the first bytes of a queue, as many as a buffer holds
+pub given_is : (count size : ℕ) (bytes before after : List ℕ) → size ≡ length before → count ≡ min size (length bytes) → after ≡ take count bytes ++ drop count before
+    → (count ≡ length (take size bytes)) × ((take size bytes ≡ take count after) × RestStays count before after)
+given_is count size bytes before after fits many is =
+    let l = length-take size bytes in
+    let c : count ≡ length (take size bytes) = omega arith in
+    let t : take count bytes ≡ take size bytes = ap (λ (n : ℕ). take n bytes) many ∙ take_min size bytes in
+    (c, filled count (take size bytes) before after c (omega arith) (is ∙ ap (λ (l : List ℕ). l ++ drop count before) t))

@@ -1,5 +1,5 @@
 -- What calls on files do to what was written to devices: a write to a device goes on, and nothing else changes it.
-use Rattle.std.proofs.Common.{◌≡◌, ℕ, zero, suc, ◌+◌, ◌-◌, Bool, true, false, not, nat_lt, ◌==◌, ◌&&◌, if◌then◌else◌, List, [], ◌∷◌, ◌++◌, length, get_or, map, set, replicate, Option, Some, None, Result, Ok, Err, ℤ, pos, ◌+ℤ◌, refl, sym, ap, ◌∙◌, append-nil}
+use Rattle.std.proofs.Common.{◌≡◌, ℕ, zero, suc, ◌+◌, ◌-◌, Bool, true, false, not, nat_lt, ◌==◌, ◌&&◌, if◌then◌else◌, List, [], ◌∷◌, ◌++◌, length, get_or, map, set, replicate, Option, Some, None, option_map, Result, Ok, Err, ℤ, pos, ◌+ℤ◌, refl, sym, ap, ◌∙◌, append-nil}
 use Rattle.file_tree.specs.declared.errno.Errno.{Errno}
 use Rattle.file_tree.specs.declared.errno.Errno.TheVariants.{EBADF, ENOENT}
 use Rattle.file_tree.specs.declared.kind.Kind.{Kind}
@@ -17,11 +17,14 @@ use Rattle.file_table.specs.declared.state.Target.TheVariants as targets
 use Rattle.file_table.specs.Descriptors.{close, close_by, closed, closed_by, dead, dup, dup_at, dup_by, dup_to, dup_to_by, free_place, is_named, let_go, marked, marked_by, no_device, swept, with_descriptor, with_flags, without_description}
 use Rattle.file_table.specs.Due.{Done, and_then, done}
 use Rattle.file_table.specs.Entries.{Listed, list, listed_in, listed_on}
-use Rattle.file_table.specs.Flags.{are_wrong, can_read, can_write, changes, creates, is_exclusive, never_waits, truncates, wants_directory}
-use Rattle.file_table.specs.Moving.{counted_from, cut, cut_kind, file_read, file_written, lawful, moved, past, place_of, read, read_target, seek, sought, truncate, went_on, with_output, write, write_at, write_target, write_target_at}
+use Rattle.file_table.specs.Flags.{are_wrong, can_read, can_write, changes, creates, is_exclusive, truncates, wants_directory}
+use Rattle.file_table.specs.declared.fault.FileFault.{FileFault}
+use Rattle.file_table.specs.Moving.{counted_from, cut, cut_kind, faulted, file_read, file_written, given, given_by, lawful, moved, past, place_of, put_by, read, read_target, seek, sought, stopped, takes_by, truncate, went_by, went_on, with_output, with_pipe, without_bytes, without_input, write, write_at, write_target, write_target_at}
+use Rattle.file_table.specs.Moving.{with_devices as table_devices}
 use Rattle.file_table.specs.Opening.{bare, device_description, new_device, open_base, open_found, open_free, open_kind, open_made, open_there, opened, standing, started, with_devices}
 use Rattle.file_table.specs.Paths.{base, put_tree, with_dir, with_tree, without}
-use Rattle.file_table.specs.State.{Files, OnlyDie, at, chosen, lives_by, open_as, outputs_of}
+use Rattle.file_table.specs.Pipes.{are_foreign, next_free, piped, piped_at}
+use Rattle.file_table.specs.State.{Files, OnlyDie, Pipe, at, chosen, lives_by, open_as, outputs_of}
 
 -- ---- of one device of a list
 
@@ -69,6 +72,18 @@ written_dies (first ∷ devices) (suc device) bytes = elim [
   | suc place ↦ λ lives. written_dies devices device bytes place lives
 ]
 
+-- a device that lives on as it did
+alive_dies : (devices : List Device) (device : ℕ) (new : Device) → new.live ≡ (get_or devices device no_device).live → OnlyDie devices (set devices device new)
+alive_dies [] device new same = λ place lives. lives
+alive_dies (first ∷ devices) zero new same = elim [
+  | zero ↦ λ lives. sym same ∙ lives
+  | suc place ↦ λ lives. lives
+]
+alive_dies (first ∷ devices) (suc device) new same = elim [
+  | zero ↦ λ lives. lives
+  | suc place ↦ λ lives. alive_dies devices device new same place lives
+]
+
 -- what is written goes behind
 pub written_more : (devices : List Device) (device : ℕ) (bytes : List ℕ) → map (λ d. d.output) (with_output device bytes devices) ≡ set (map (λ d. d.output) devices) device (get_or (map (λ d. d.output) devices) device [] ++ bytes)
 written_more devices device bytes =
@@ -106,6 +121,7 @@ keeps_then of files (Ok y) go all = all y
 let_go_same : (target : Target) (files : Files) → Kept files (let_go target files)
 let_go_same (targets.Node inode) files = (refl, λ device lives. lives)
 let_go_same (targets.Device device) files = (dead_same files.devices device, dead_dies files.devices device)
+let_go_same (targets.Pipe pipe writes) files = (refl, λ device lives. lives)
 
 without_same : (number : ℕ) (o : Option Description) (files : Files) → Kept files (without_description number o files)
 without_same number None files = (refl, λ device lives. lives)
@@ -204,6 +220,15 @@ pub opened_keeps : (dir : ℤ) (path : List ℕ) (flags : ℕ) (files : Files) �
 unfolding opened
 opened_keeps dir path flags files = keeps_if done_files files (are_wrong flags) _ _ tt (open_base_keeps (base dir path files) path flags files)
 
+piped_at_keeps : (reader writer : Option ℕ) (flags : ℕ) (files : Files) → Keeps done_files files (piped_at reader writer flags files)
+piped_at_keeps (Some reader) (Some writer) flags files = (refl, λ device lives. lives)
+piped_at_keeps (Some reader) None flags files = tt
+piped_at_keeps None writer flags files = tt
+
+pub piped_keeps : (flags : ℕ) (files : Files) → Keeps done_files files (piped flags files)
+unfolding piped
+piped_keeps flags files = keeps_if done_files files (are_foreign flags) _ _ tt (piped_at_keeps (free_place 0 files.descriptors) (next_free (free_place 0 files.descriptors) files) flags files)
+
 tree_keeps : (r : Result Tree Errno) (files : Files) → Keeps themselves files (put_tree r files)
 tree_keeps (Err errno) files = tt
 tree_keeps (Ok tree) files = (refl, λ device lives. lives)
@@ -222,9 +247,21 @@ went_on_keeps : (number : ℕ) (it : Description) (files : Files) (r : Result (L
 went_on_keeps number it files (Err errno) = tt
 went_on_keeps number it files (Ok bytes) = (refl, λ device lives. lives)
 
+device_read_keeps : (number : ℕ) (device : Device) (files : Files) (r : Result (List ℕ) FileFault) → device ≡ get_or files.devices number no_device → Keeps done_files files (went_by r (λ count. table_devices (set files.devices number (without_input count device)) files))
+device_read_keeps number device files (Err fault) is = tt
+device_read_keeps number device files (Ok bytes) is = (
+  outputs_set files.devices number (without_input (length bytes) device) ∙ (ap (λ (d : Device). set (map (λ d. d.output) files.devices) number d.output) is ∙ (ap (set (map (λ d. d.output) files.devices) number) (output_at files.devices number) ∙ same_set (map (λ d. d.output) files.devices) number)),
+  alive_dies files.devices number (without_input (length bytes) device) (ap (λ (d : Device). d.live) is),
+)
+
+pipe_read_keeps : (number : ℕ) (place : Option Pipe) (files : Files) (r : Result (List ℕ) FileFault) → Keeps done_files files (went_by r (λ count. with_pipe number (option_map (without_bytes count) place) files))
+pipe_read_keeps number place files (Err fault) = tt
+pipe_read_keeps number place files (Ok bytes) = (refl, λ device lives. lives)
+
 read_target_keeps : (target : Target) (number : ℕ) (it : Description) (size : ℕ) (files : Files) → Keeps done_files files (read_target target number it size files)
 read_target_keeps (targets.Node inode) number it size files = went_on_keeps number it files (file_read inode it.offset size files.tree)
-read_target_keeps (targets.Device device) number it size files = keeps_if done_files files (never_waits it.flags) _ _ tt tt
+read_target_keeps (targets.Device device) number it size files = device_read_keeps device (get_or files.devices device no_device) files (given (not (get_or files.devices device no_device).ended) (get_or files.devices device no_device).input it.flags size) refl
+read_target_keeps (targets.Pipe pipe writes) number it size files = pipe_read_keeps pipe (at files.pipes pipe) files (given_by (at files.pipes pipe) it.flags size)
 
 pub read_keeps : (fd size : ℕ) (files : Files) → Keeps done_files files (read fd size files)
 unfolding read
@@ -235,6 +272,7 @@ read_keeps fd size files =
 write_at_target_keeps : (target : Target) (flags offset : ℕ) (bytes : List ℕ) (files : Files) → Keeps done_files files (write_target_at target flags offset bytes files)
 write_at_target_keeps (targets.Node inode) flags offset bytes files = keeps_then done_files files (file_written inode (place_of flags inode offset files.tree) bytes files.tree) _ (λ tree. (refl, λ device lives. lives))
 write_at_target_keeps (targets.Device device) flags offset bytes files = tt
+write_at_target_keeps (targets.Pipe pipe writes) flags offset bytes files = tt
 
 pub write_at_keeps : (fd offset : ℕ) (bytes : List ℕ) (files : Files) → Keeps done_files files (write_at fd offset bytes files)
 unfolding write_at
@@ -244,6 +282,7 @@ write_at_keeps fd offset bytes files =
 
 sought_keeps : (target : Target) (number : ℕ) (it : Description) (offset : ℤ) (whence : ℕ) (files : Files) → Keeps done_files files (sought target number it offset whence files)
 sought_keeps (targets.Device device) number it offset whence files = tt
+sought_keeps (targets.Pipe pipe writes) number it offset whence files = tt
 sought_keeps (targets.Node inode) number it offset whence files =
     keeps_then done_files files (counted_from whence inode it files.tree) _ (λ from. keeps_then done_files files (lawful (pos from +ℤ offset)) _ (λ to. (refl, λ device lives. lives)))
 
@@ -260,6 +299,7 @@ cut_kind_keeps (Some File) inode flags size files = keeps_if themselves files (n
 
 cut_keeps : (target : Target) (flags size : ℕ) (files : Files) → Keeps themselves files (cut target flags size files)
 cut_keeps (targets.Device device) flags size files = tt
+cut_keeps (targets.Pipe pipe writes) flags size files = tt
 cut_keeps (targets.Node inode) flags size files = cut_kind_keeps (kind_in files.tree inode) inode flags size files
 
 pub truncate_keeps : (fd size : ℕ) (files : Files) → Keeps themselves files (truncate fd size files)
@@ -288,19 +328,24 @@ Grows files (Ok it) = GoesOn (outputs_of files) (outputs_of it.files) × OnlyDie
 same_goes_on : (old new : List (List ℕ)) → new ≡ old → GoesOn old new
 same_goes_on old new same = (0, [], same ∙ sym (ap (set old 0) (append-nil (get_or old 0 [])) ∙ same_set old 0))
 
-node_grows : (inode number : ℕ) (it : Description) (bytes : List ℕ) (files : Files) (r : Result Tree Errno) → Grows files (and_then r (λ tree. Ok (done (moved number (past it.offset (place_of it.flags inode it.offset files.tree) (length bytes)) it (with_tree tree files)) (length bytes))))
+node_grows : (inode number : ℕ) (it : Description) (bytes : List ℕ) (files : Files) (r : Result Tree Errno) → Grows files (faulted (and_then r (λ tree. Ok (done (moved number (past it.offset (place_of it.flags inode it.offset files.tree) (length bytes)) it (with_tree tree files)) (length bytes)))))
 node_grows inode number it bytes files (Err errno) = tt
 node_grows inode number it bytes files (Ok tree) = (same_goes_on _ _ refl, λ device lives. lives)
+
+put_grows : (r : Result ℕ FileFault) (number : ℕ) (place : Option Pipe) (bytes : List ℕ) (files : Files) → Grows files (put_by r number place bytes files)
+put_grows (Err fault) number place bytes files = tt
+put_grows (Ok count) number place bytes files = (same_goes_on _ _ refl, λ device lives. lives)
 
 target_grows : (target : Target) (number : ℕ) (it : Description) (bytes : List ℕ) (files : Files) → Grows files (write_target target number it bytes files)
 target_grows (targets.Node inode) number it bytes files = node_grows inode number it bytes files (file_written inode (place_of it.flags inode it.offset files.tree) bytes files.tree)
 target_grows (targets.Device device) number it bytes files = ((device, bytes, written_more files.devices device bytes), written_dies files.devices device bytes)
+target_grows (targets.Pipe pipe writes) number it bytes files = put_grows (takes_by (at files.pipes pipe) it.flags (length bytes)) pipe (at files.pipes pipe) bytes files
 
-grows_by : (b : Bool) (target : Target) (number : ℕ) (it : Description) (bytes : List ℕ) (files : Files) → Grows files (if b then Err EBADF else write_target target number it bytes files)
+grows_by : (b : Bool) (target : Target) (number : ℕ) (it : Description) (bytes : List ℕ) (files : Files) → Grows files (if b then stopped EBADF else write_target target number it bytes files)
 grows_by true target number it bytes files = tt
 grows_by false target number it bytes files = target_grows target number it bytes files
 
-open_grows : (o : Option (ℕ × Description)) (bytes : List ℕ) (files : Files) → Grows files (chosen o (Err EBADF) (λ number it. if not (can_write it.flags) then Err EBADF else write_target it.target number it bytes files))
+open_grows : (o : Option (ℕ × Description)) (bytes : List ℕ) (files : Files) → Grows files (chosen o (stopped EBADF) (λ number it. if not (can_write it.flags) then stopped EBADF else write_target it.target number it bytes files))
 open_grows None bytes files = tt
 open_grows (Some (number, it)) bytes files = grows_by (not (can_write it.flags)) it.target number it bytes files
 

@@ -56,6 +56,7 @@ by_few inode (Some Dir) linked room index tree = either_few (not linked) room (E
 
 in_few : (target : Target) (room index : ℕ) (tree : Tree) → FewListed room (listed_in target room index tree)
 in_few (targets.Device device) room index tree = tt
+in_few (targets.Pipe pipe writes) room index tree = tt
 in_few (targets.Node inode) room index tree = by_few inode (kind_in tree inode) (linked_in tree inode) room index tree
 
 on_few : (number room : ℕ) (it : Description) (files : Files) (r : Result Listed Errno) → FewListed room r → Few room (listed_on number it files r)

@@ -14,12 +14,13 @@ use Rattle.file_table.specs.declared.state.Description.{Description}
 use Rattle.file_table.specs.declared.state.Device.{Device}
 use Rattle.file_table.specs.declared.state.Target.{Target}
 use Rattle.file_table.specs.declared.state.Target.TheVariants as targets
-use Rattle.file_table.specs.Descriptors.{names, is_named, with_descriptor, with_description, device_of, no_device}
+use Rattle.file_table.specs.Descriptors.{names, is_named, with_descriptor, with_description, lone_of, no_device, without_end, without_end_by}
 use Rattle.file_table.specs.Paths.{with_tree}
+use Rattle.file_table.specs.Pipes.{new_pipe, with_new_pipe}
 use Rattle.file_table.specs.Sound.{IsSound, IsThere, one_for, one_in, holders}
-use Rattle.file_table.specs.State.{Files, at, put, lives_by}
+use Rattle.file_table.specs.State.{Files, Pipe, at, end_of_pipe, is_open_by, put, lives_by}
 use Rattle.file_table.proofs.PlaceFacts.{at_same, at_other, at_within, some_from, some_is, put_same, put_other, put_sum, names_one, names_self, named_at, named_set}
-use Rattle.file_table.specs.Opening.{vacant, node_description}
+use Rattle.file_table.specs.Opening.{vacant, target_description}
 use Rattle.file_table.proofs.CountFacts.{few_descriptions, few_holders, vacant_free, vacant_behind, vacant_few}
 
 -- ---- a descriptor at a free place, or at one that names the same description
@@ -91,18 +92,18 @@ gone_at places number k it low same = elim (cases_eq k number) [
   | inr apart ↦ (apart, sym (at_other places number k None apart) ∙ same)
 ]
 
-gone_device : (places : List (Option Description)) (number k device : ℕ) → number < length places → device_of (at (set places number None) k) ≡ Some device → (k ≢ number) × (device_of (at places k) ≡ Some device)
-gone_device places number k device low same = elim (cases_eq k number) [
-  | inl e ↦ absurd (let p : None ≡ Some device = ap device_of (sym (at_same places number None low)) ∙ (ap (λ (n : ℕ). device_of (at (set places number None) n)) (sym e) ∙ same) in let f : ⊥ = cc in f)
-  | inr apart ↦ (apart, ap device_of (sym (at_other places number k None apart)) ∙ same)
+gone_lone : (places : List (Option Description)) (number k : ℕ) (target : Target) → number < length places → lone_of (at (set places number None) k) ≡ Some target → (k ≢ number) × (lone_of (at places k) ≡ Some target)
+gone_lone places number k target low same = elim (cases_eq k number) [
+  | inl e ↦ absurd (let p : None ≡ Some target = ap lone_of (sym (at_same places number None low)) ∙ (ap (λ (n : ℕ). lone_of (at (set places number None) n)) (sym e) ∙ same) in let f : ⊥ = cc in f)
+  | inr apart ↦ (apart, ap lone_of (sym (at_other places number k None apart)) ∙ same)
 ]
 
-pub description_gone : (files : Files) (fd number : ℕ) (it : Description) (tree : Tree) (devices : List Device) → IsSound files → names number (at files.descriptors fd) ≡ true → is_named number (set files.descriptors fd None) ≡ false → at files.descriptions number ≡ Some it → IsSoundTree tree
-    → ((k : ℕ) (other : Description) → k ≢ number → at files.descriptions k ≡ Some other → IsThere tree devices other.target)
+pub description_gone : (files : Files) (fd number : ℕ) (it : Description) (tree : Tree) (devices : List Device) (pipes : List (Option Pipe)) → IsSound files → names number (at files.descriptors fd) ≡ true → is_named number (set files.descriptors fd None) ≡ false → at files.descriptions number ≡ Some it → IsSoundTree tree
+    → ((k : ℕ) (other : Description) → k ≢ number → at files.descriptions k ≡ Some other → IsThere tree devices pipes other.target)
     → ((inode : ℕ) → holds_in tree inode + one_in inode it.target ≡ holders inode files.descriptions)
-    → IsSound (record { tree = tree; descriptors = set files.descriptors fd None; descriptions = set files.descriptions number None; devices = devices })
+    → IsSound (record { tree = tree; descriptors = set files.descriptors fd None; descriptions = set files.descriptions number None; devices = devices; pipes = pipes })
 unfolding holders
-description_gone files fd number it tree devices is here gone there sound stays holds =
+description_gone files fd number it tree devices pipes is here gone there sound stays holds =
     let low = names_within files.descriptors fd number here in
     let within = at_within files.descriptions number it there in
     record {
@@ -124,8 +125,8 @@ description_gone files fd number it tree devices is here gone there sound stays 
           let o : one_for inode (at files.descriptions number) ≡ one_in inode it.target = ap (one_for inode) there in
           let h = holds inode in
           omega arith;
-      once = λ device k other first second.
-          is.once device k other (gone_device files.descriptions number k device within first).1 (gone_device files.descriptions number other device within second).1;
+      once = λ target k other first second.
+          is.once target k other (gone_lone files.descriptions number k target within first).1 (gone_lone files.descriptions number other target within second).1;
     }
 
 -- ---- entries that are held
@@ -173,12 +174,13 @@ module _ (files : Files) (number inode : ℕ) (it : Description) (tree : Tree) (
     | inr far ↦ subst IsSome (sym (others_kind inode other files.tree tree freed.others far)) has
   ]
 
-  release_there : (k : ℕ) (also : Description) → k ≢ number → at files.descriptions k ≡ Some also → IsThere tree files.devices also.target
+  release_there : (k : ℕ) (also : Description) → k ≢ number → at files.descriptions k ≡ Some also → IsThere tree files.devices files.pipes also.target
   release_there k also apart second = by_target also.target refl (is.there k also second)
     where
-      by_target : (t : Target) → also.target ≡ t → IsThere files.tree files.devices t → IsThere tree files.devices t
+      by_target : (t : Target) → also.target ≡ t → IsThere files.tree files.devices files.pipes t → IsThere tree files.devices files.pipes t
       by_target (targets.Node other) same has = node_there k other also apart second same has
       by_target (targets.Device device) same lives = lives
+      by_target (targets.Pipe pipe writes) same stands = stands
 
   release_holds : (other : ℕ) → holds_in tree other + one_in other it.target ≡ holders other files.descriptions
   release_holds other = elim (cases_eq other inode) [
@@ -196,17 +198,18 @@ module _ (files : Files) (number inode : ℕ) (it : Description) (tree : Tree) (
   ]
 
 pub node_gone : (files : Files) (fd number inode : ℕ) (it : Description) (tree : Tree) → IsSound files → names number (at files.descriptors fd) ≡ true → is_named number (set files.descriptors fd None) ≡ false → at files.descriptions number ≡ Some it → it.target ≡ targets.Node inode → IsReleased inode files.tree tree
-    → IsSound (record { tree = tree; descriptors = set files.descriptors fd None; descriptions = set files.descriptions number None; devices = files.devices })
+    → IsSound (record { tree = tree; descriptors = set files.descriptors fd None; descriptions = set files.descriptions number None; devices = files.devices; pipes = files.pipes })
 node_gone files fd number inode it tree is here gone there target freed =
-    description_gone files fd number it tree files.devices is here gone there freed.sound (release_there files number inode it tree is there target freed) (release_holds files number inode it tree is there target freed)
+    description_gone files fd number it tree files.devices files.pipes is here gone there freed.sound (release_there files number inode it tree is there target freed) (release_holds files number inode it tree is there target freed)
 
 -- a device whose description goes is dead
-device_at : (it : Description) (device : ℕ) → it.target ≡ targets.Device device → device_of (Some it) ≡ Some device
+device_at : (it : Description) (device : ℕ) → it.target ≡ targets.Device device → lone_of (Some it) ≡ Some (targets.Device device)
 device_at it device target = by_target it.target target
   where
-    by_target : (t : Target) → t ≡ targets.Device device → device_of (Some (record { target = t; flags = it.flags; offset = it.offset })) ≡ Some device
+    by_target : (t : Target) → t ≡ targets.Device device → lone_of (Some (record { target = t; flags = it.flags; offset = it.offset })) ≡ Some (targets.Device device)
     by_target (targets.Node inode) same = absurd (let f : ⊥ = cc in f)
-    by_target (targets.Device other) same = let e : other ≡ device = cc in ap (λ (n : ℕ). Some n) e
+    by_target (targets.Device other) same = let e : other ≡ device = cc in ap (λ (n : ℕ). Some (targets.Device n)) e
+    by_target (targets.Pipe pipe writes) same = absurd (let f : ⊥ = cc in f)
 
 get_within : (devices : List Device) (k : ℕ) → lives_by (slice_get devices k) ≡ true → k < length devices
 get_within [] k lives = absurd (let f : ⊥ = cc in f)
@@ -215,7 +218,7 @@ get_within (d ∷ ds) (suc k) lives = let h : k < length ds = get_within ds k li
 
 -- a device that a description names is there
 pub device_within : (files : Files) (number device : ℕ) (it : Description) → IsSound files → at files.descriptions number ≡ Some it → it.target ≡ targets.Device device → device < length files.devices
-device_within files number device it is there target = get_within files.devices device (subst (IsThere files.tree files.devices) target (is.there number it there))
+device_within files number device it is there target = get_within files.devices device (subst (IsThere files.tree files.devices files.pipes) target (is.there number it there))
 
 get_other : (devices : List Device) (k n : ℕ) (device : Device) → n ≢ k → slice_get (set devices k device) n ≡ slice_get devices n
 get_other [] k n device apart = refl
@@ -225,26 +228,85 @@ get_other (d ∷ ds) (suc k) zero device apart = refl
 get_other (d ∷ ds) (suc k) (suc n) device apart = get_other ds k n device (λ e. apart (ap suc e))
 
 pub device_gone : (files : Files) (fd number device : ℕ) (it : Description) (left : Device) → IsSound files → names number (at files.descriptors fd) ≡ true → is_named number (set files.descriptors fd None) ≡ false → at files.descriptions number ≡ Some it → it.target ≡ targets.Device device
-    → IsSound (record { tree = files.tree; descriptors = set files.descriptors fd None; descriptions = set files.descriptions number None; devices = set files.devices device left })
+    → IsSound (record { tree = files.tree; descriptors = set files.descriptors fd None; descriptions = set files.descriptions number None; devices = set files.devices device left; pipes = files.pipes })
 device_gone files fd number device it left is here gone there target =
-    description_gone files fd number it files.tree (set files.devices device left) is here gone there is.tree stays holds
+    description_gone files fd number it files.tree (set files.devices device left) files.pipes is here gone there is.tree stays holds
   where
-    stays : (k : ℕ) (other : Description) → k ≢ number → at files.descriptions k ≡ Some other → IsThere files.tree (set files.devices device left) other.target
+    stays : (k : ℕ) (other : Description) → k ≢ number → at files.descriptions k ≡ Some other → IsThere files.tree (set files.devices device left) files.pipes other.target
     stays k other apart second = by_target other.target refl (is.there k other second)
       where
-        by_target : (t : Target) → other.target ≡ t → IsThere files.tree files.devices t → IsThere files.tree (set files.devices device left) t
+        by_target : (t : Target) → other.target ≡ t → IsThere files.tree files.devices files.pipes t → IsThere files.tree (set files.devices device left) files.pipes t
         by_target (targets.Node inode) same has = has
         by_target (targets.Device d) same lives =
-            let far : d ≢ device = λ e. apart (is.once device k number (ap device_of second ∙ device_at other device (same ∙ ap targets.Device e)) (ap device_of there ∙ device_at it device target)) in
+            let far : d ≢ device = λ e. apart (is.once (targets.Device device) k number (ap lone_of second ∙ device_at other device (same ∙ ap targets.Device e)) (ap lone_of there ∙ device_at it device target)) in
             ap lives_by (get_other files.devices device d left far) ∙ lives
+        by_target (targets.Pipe pipe writes) same stands = stands
+
+    holds : (inode : ℕ) → holds_in files.tree inode + one_in inode it.target ≡ holders inode files.descriptions
+    holds inode = let o : one_in inode it.target ≡ 0 = ap (one_in inode) target in let h = is.holds inode in omega arith
+
+-- an end of a pipe whose description goes is closed
+pipe_at : (it : Description) (pipe : ℕ) (writes : Bool) → it.target ≡ targets.Pipe pipe writes → lone_of (Some it) ≡ Some (targets.Pipe pipe writes)
+pipe_at it pipe writes target = ap (λ (t : Target). lone_of (Some (record { target = t; flags = it.flags; offset = it.offset }))) target
+
+other_end : (writes also : Bool) (pipe : Pipe) → (also ≡ writes → ⊥) → end_of_pipe also pipe ≡ true → is_open_by also (without_end writes pipe) ≡ true
+other_end true true pipe apart stands = absurd (apart refl)
+other_end true false pipe apart stands = by_reader pipe.reader stands
+  where
+    by_reader : (b : Bool) → b ≡ true → is_open_by false (if b then Some (record { bytes = pipe.bytes; reader = true; writer = false }) else None) ≡ true
+    by_reader true stands = refl
+    by_reader false stands = absurd (let f : ⊥ = cc in f)
+other_end false false pipe apart stands = absurd (apart refl)
+other_end false true pipe apart stands = by_writer pipe.writer stands
+  where
+    by_writer : (b : Bool) → b ≡ true → is_open_by true (if b then Some (record { bytes = pipe.bytes; reader = false; writer = true }) else None) ≡ true
+    by_writer true stands = refl
+    by_writer false stands = absurd (let f : ⊥ = cc in f)
+
+other_end_by : (writes also : Bool) (place : Option Pipe) → (also ≡ writes → ⊥) → is_open_by also place ≡ true → is_open_by also (without_end_by writes place) ≡ true
+other_end_by writes also None apart stands = stands
+other_end_by writes also (Some pipe) apart stands = other_end writes also pipe apart stands
+
+-- an end that is open is of a pipe that is there
+pipe_there : (writes : Bool) (place : Option Pipe) → is_open_by writes place ≡ true → (pipe : Pipe) × (place ≡ Some pipe)
+pipe_there writes None stands = absurd (let f : ⊥ = cc in f)
+pipe_there writes (Some pipe) stands = (pipe, refl)
+
+pub pipe_within : (pipes : List (Option Pipe)) (pipe : ℕ) (writes : Bool) → is_open_by writes (at pipes pipe) ≡ true → pipe < length pipes
+pipe_within pipes pipe writes stands = let there = pipe_there writes (at pipes pipe) stands in at_within pipes pipe there.0 there.1
+
+pub end_there : (files : Files) (number pipe : ℕ) (writes : Bool) (it : Description) → IsSound files → at files.descriptions number ≡ Some it → it.target ≡ targets.Pipe pipe writes → is_open_by writes (at files.pipes pipe) ≡ true
+end_there files number pipe writes it is there target = subst (IsThere files.tree files.devices files.pipes) target (is.there number it there)
+
+pub pipe_gone : (files : Files) (fd number pipe : ℕ) (writes : Bool) (it : Description) → IsSound files → names number (at files.descriptors fd) ≡ true → is_named number (set files.descriptors fd None) ≡ false → at files.descriptions number ≡ Some it → it.target ≡ targets.Pipe pipe writes
+    → IsSound (record { tree = files.tree; descriptors = set files.descriptors fd None; descriptions = set files.descriptions number None; devices = files.devices; pipes = set files.pipes pipe (without_end_by writes (at files.pipes pipe)) })
+pipe_gone files fd number pipe writes it is here gone there target =
+    description_gone files fd number it files.tree files.devices (set files.pipes pipe (without_end_by writes (at files.pipes pipe))) is here gone there is.tree stays holds
+  where
+    within : pipe < length files.pipes
+    within = pipe_within files.pipes pipe writes (end_there files number pipe writes it is there target)
+
+    stays : (k : ℕ) (other : Description) → k ≢ number → at files.descriptions k ≡ Some other → IsThere files.tree files.devices (set files.pipes pipe (without_end_by writes (at files.pipes pipe))) other.target
+    stays k other apart second = by_target other.target refl (is.there k other second)
+      where
+        by_target : (t : Target) → other.target ≡ t → IsThere files.tree files.devices files.pipes t → IsThere files.tree files.devices (set files.pipes pipe (without_end_by writes (at files.pipes pipe))) t
+        by_target (targets.Node inode) same has = has
+        by_target (targets.Device d) same lives = lives
+        by_target (targets.Pipe p also) same stands = elim (cases_eq p pipe) [
+          | inl e ↦
+              let far : also ≡ writes → ⊥ = λ f. apart (is.once (targets.Pipe pipe writes) k number (ap lone_of second ∙ pipe_at other pipe writes (same ∙ (ap (λ (n : ℕ). targets.Pipe n also) e ∙ ap (targets.Pipe pipe) f))) (ap lone_of there ∙ pipe_at it pipe writes target)) in
+              subst (λ (n : ℕ). is_open_by also (at (set files.pipes pipe (without_end_by writes (at files.pipes pipe))) n) ≡ true) (sym e)
+              (ap (is_open_by also) (at_same files.pipes pipe (without_end_by writes (at files.pipes pipe)) within) ∙ other_end_by writes also (at files.pipes pipe) far (subst (λ (n : ℕ). is_open_by also (at files.pipes n) ≡ true) e stands))
+          | inr off ↦ ap (is_open_by also) (at_other files.pipes pipe p (without_end_by writes (at files.pipes pipe)) off) ∙ stands
+        ]
 
     holds : (inode : ℕ) → holds_in files.tree inode + one_in inode it.target ≡ holders inode files.descriptions
     holds inode = let o : one_in inode it.target ≡ 0 = ap (one_in inode) target in let h = is.holds inode in omega arith
 
 -- ---- a description with other flags or another offset
 
-device_same : (first second : Description) → first.target ≡ second.target → device_of (Some first) ≡ device_of (Some second)
-device_same first second same = ap (λ (t : Target). device_of (Some (record { target = t; flags = 0; offset = 0 }))) same
+lone_same : (first second : Description) → first.target ≡ second.target → lone_of (Some first) ≡ lone_of (Some second)
+lone_same first second same = ap (λ (t : Target). lone_of (Some (record { target = t; flags = 0; offset = 0 }))) same
 
 pub description_changed : (files : Files) (number : ℕ) (old new : Description) → IsSound files → at files.descriptions number ≡ Some old → new.target ≡ old.target → IsSound (with_description number new files)
 unfolding holders
@@ -257,7 +319,7 @@ description_changed files number old new is there same = record {
     | inl e ↦
         let p : Some new ≡ Some it = sym here ∙ (ap (at (set files.descriptions number (Some new))) (sym e) ∙ is_it) in
         let q : new ≡ it = cc in
-        subst (IsThere files.tree files.devices) (sym same ∙ ap (λ (d : Description). d.target) q) (is.there number old there)
+        subst (IsThere files.tree files.devices files.pipes) (sym same ∙ ap (λ (d : Description). d.target) q) (is.there number old there)
     | inr apart ↦ is.there k it (sym (at_other files.descriptions number k (Some new) apart) ∙ is_it)
   ];
   holds = λ inode.
@@ -265,7 +327,7 @@ description_changed files number old new is there same = record {
       let o : one_for inode (at files.descriptions number) ≡ one_for inode (Some new) = ap (one_for inode) there ∙ ap (one_in inode) (sym same) in
       let h : holds_in files.tree inode ≡ sum_by (one_for inode) files.descriptions = is.holds inode in
       omega arith;
-  once = λ device k other first second. is.once device k other (sym (device_k k) ∙ first) (sym (device_k other) ∙ second);
+  once = λ target k other first second. is.once target k other (sym (lone_k k) ∙ first) (sym (lone_k other) ∙ second);
 }
   where
     within : number < length files.descriptions
@@ -286,20 +348,20 @@ description_changed files number old new is there same = record {
       | inr apart ↦ subst IsSome (at_other files.descriptions number k (Some new) apart) some
     ]
 
-    device_k : (k : ℕ) → device_of (at (set files.descriptions number (Some new)) k) ≡ device_of (at files.descriptions k)
-    device_k k = elim (cases_eq k number) [
-      | inl e ↦ subst (λ (n : ℕ). device_of (at (set files.descriptions number (Some new)) n) ≡ device_of (at files.descriptions n)) (sym e) (ap device_of here ∙ (device_same new old same ∙ ap device_of (sym there)))
-      | inr apart ↦ ap device_of (at_other files.descriptions number k (Some new) apart)
+    lone_k : (k : ℕ) → lone_of (at (set files.descriptions number (Some new)) k) ≡ lone_of (at files.descriptions k)
+    lone_k k = elim (cases_eq k number) [
+      | inl e ↦ subst (λ (n : ℕ). lone_of (at (set files.descriptions number (Some new)) n) ≡ lone_of (at files.descriptions n)) (sym e) (ap lone_of here ∙ (lone_same new old same ∙ ap lone_of (sym there)))
+      | inr apart ↦ ap lone_of (at_other files.descriptions number k (Some new) apart)
     ]
 
 -- ---- a description that is new, with its descriptor
 
 pub description_added : (files : Files) (tree : Tree) (fd v : ℕ) (it : Description) (closes : Bool) → IsSound files → IsSoundTree tree → fd < 256 → at files.descriptors fd ≡ None → at files.descriptions v ≡ None → v ≤ length files.descriptions
-    → ((k : ℕ) (other : Description) → at files.descriptions k ≡ Some other → IsThere tree files.devices other.target)
-    → IsThere tree files.devices it.target
+    → ((k : ℕ) (other : Description) → at files.descriptions k ≡ Some other → IsThere tree files.devices files.pipes other.target)
+    → IsThere tree files.devices files.pipes it.target
     → ((inode : ℕ) → holds_in tree inode ≡ holders inode files.descriptions + one_in inode it.target)
-    → ((device k : ℕ) → device_of (Some it) ≡ Some device → device_of (at files.descriptions k) ≡ Some device → ⊥)
-    → IsSound (record { tree = tree; descriptors = set files.descriptors fd (Some (record { description = v; close_on_exec = closes })); descriptions = put v it files.descriptions; devices = files.devices })
+    → ((target : Target) (k : ℕ) → lone_of (Some it) ≡ Some target → lone_of (at files.descriptions k) ≡ Some target → ⊥)
+    → IsSound (record { tree = tree; descriptors = set files.descriptors fd (Some (record { description = v; close_on_exec = closes })); descriptions = put v it files.descriptions; devices = files.devices; pipes = files.pipes })
 unfolding holders
 description_added files tree fd v it closes is sound low free unused behind stays there holds fresh = record {
   tree = sound;
@@ -321,18 +383,18 @@ description_added files tree fd v it closes is sound low free unused behind stay
     | inl e ↦
         let p : Some it ≡ Some other = sym here ∙ (ap (at (put v it files.descriptions)) (sym e) ∙ same) in
         let q : it ≡ other = cc in
-        subst (λ (x : Description). IsThere tree files.devices x.target) q there
+        subst (λ (x : Description). IsThere tree files.devices files.pipes x.target) q there
     | inr apart ↦ stays k other (sym (put_other files.descriptions v k it behind apart) ∙ same)
   ];
   holds = λ inode. holds inode ∙ sym (put_sum (one_for inode) files.descriptions v it refl unused);
   once = λ device k other first second. elim (cases_eq k v) [
     | inl e ↦ elim (cases_eq other v) [
       | inl f ↦ e ∙ sym f
-      | inr far ↦ absurd (fresh device other (here_device device k e first) (else_device device other far second))
+      | inr far ↦ absurd (fresh device other (here_lone device k e first) (else_lone device other far second))
     ]
     | inr apart ↦ elim (cases_eq other v) [
-      | inl f ↦ absurd (fresh device k (here_device device other f second) (else_device device k apart first))
-      | inr far ↦ is.once device k other (else_device device k apart first) (else_device device other far second)
+      | inl f ↦ absurd (fresh device k (here_lone device other f second) (else_lone device k apart first))
+      | inr far ↦ is.once device k other (else_lone device k apart first) (else_lone device other far second)
     ]
   ];
 }
@@ -352,11 +414,11 @@ description_added files tree fd v it closes is sound low free unused behind stay
       | inr apart ↦ subst IsSome (sym (put_other files.descriptions v k it behind apart)) some
     ]
 
-    here_device : (device k : ℕ) → k ≡ v → device_of (at (put v it files.descriptions) k) ≡ Some device → device_of (Some it) ≡ Some device
-    here_device device k e same = sym (ap device_of here) ∙ (ap (λ (n : ℕ). device_of (at (put v it files.descriptions) n)) (sym e) ∙ same)
+    here_lone : (device : Target) (k : ℕ) → k ≡ v → lone_of (at (put v it files.descriptions) k) ≡ Some device → lone_of (Some it) ≡ Some device
+    here_lone device k e same = sym (ap lone_of here) ∙ (ap (λ (n : ℕ). lone_of (at (put v it files.descriptions) n)) (sym e) ∙ same)
 
-    else_device : (device k : ℕ) → k ≢ v → device_of (at (put v it files.descriptions) k) ≡ Some device → device_of (at files.descriptions k) ≡ Some device
-    else_device device k apart same = ap device_of (sym (put_other files.descriptions v k it behind apart)) ∙ same
+    else_lone : (device : Target) (k : ℕ) → k ≢ v → lone_of (at (put v it files.descriptions) k) ≡ Some device → lone_of (at files.descriptions k) ≡ Some device
+    else_lone device k apart same = ap lone_of (sym (put_other files.descriptions v k it behind apart)) ∙ same
 
 -- ---- another tree
 
@@ -371,10 +433,11 @@ tree_changed files tree is sound holds kinds = record {
   once = is.once;
 }
   where
-    by_target : (k : ℕ) (it : Description) (t : Target) → it.target ≡ t → at files.descriptions k ≡ Some it → IsThere files.tree files.devices t → IsThere tree files.devices t
+    by_target : (k : ℕ) (it : Description) (t : Target) → it.target ≡ t → at files.descriptions k ≡ Some it → IsThere files.tree files.devices files.pipes t → IsThere tree files.devices files.pipes t
     by_target k it (targets.Node inode) target same has =
         held_has_stays files.tree tree inode kinds (subst (λ (n : ℕ). 0 < n) (sym (is.holds inode)) (held_once inode k files.descriptions it same target)) has
     by_target k it (targets.Device device) target same lives = lives
+    by_target k it (targets.Pipe pipe writes) target same stands = stands
 
 -- where each entry keeps its kind, so do those that are held
 pub all_held : (old new : Tree) → KindsStay old new → HeldStay old new
@@ -389,7 +452,7 @@ lives_other (d ∷ ds) zero (suc k) new same lives = lives
 lives_other (d ∷ ds) (suc device) zero new same lives = lives
 lives_other (d ∷ ds) (suc device) (suc k) new same lives = lives_other ds device k new same lives
 
-pub device_changed : (files : Files) (device : ℕ) (new : Device) → IsSound files → new.live ≡ (get_or files.devices device no_device).live → IsSound (record { tree = files.tree; descriptors = files.descriptors; descriptions = files.descriptions; devices = set files.devices device new })
+pub device_changed : (files : Files) (device : ℕ) (new : Device) → IsSound files → new.live ≡ (get_or files.devices device no_device).live → IsSound (record { tree = files.tree; descriptors = files.descriptors; descriptions = files.descriptions; devices = set files.devices device new; pipes = files.pipes })
 device_changed files device new is same = record {
   tree = is.tree;
   many = is.many;
@@ -400,9 +463,10 @@ device_changed files device new is same = record {
   once = is.once;
 }
   where
-    by_target : (t : Target) → IsThere files.tree files.devices t → IsThere files.tree (set files.devices device new) t
+    by_target : (t : Target) → IsThere files.tree files.devices files.pipes t → IsThere files.tree (set files.devices device new) files.pipes t
     by_target (targets.Node inode) has = has
     by_target (targets.Device other) lives = lives_other files.devices device other new same lives
+    by_target (targets.Pipe pipe writes) stands = stands
 
 -- ---- an entry that is opened
 
@@ -414,17 +478,18 @@ vacant_low files fd is low free =
     omega arith
 
 pub node_opened : (files : Files) (tree : Tree) (fd inode flags : ℕ) (closes : Bool) → IsSound files → fd < 256 → at files.descriptors fd ≡ None → Has files.tree inode → IsHeld inode files.tree tree
-    → IsSound (record { tree = tree; descriptors = set files.descriptors fd (Some (record { description = vacant files.descriptions; close_on_exec = closes })); descriptions = put (vacant files.descriptions) (node_description inode flags) files.descriptions; devices = files.devices })
+    → IsSound (record { tree = tree; descriptors = set files.descriptors fd (Some (record { description = vacant files.descriptions; close_on_exec = closes })); descriptions = put (vacant files.descriptions) (target_description (targets.Node inode) flags) files.descriptions; devices = files.devices; pipes = files.pipes })
 node_opened files tree fd inode flags closes is low free has held =
-    description_added files tree fd (vacant files.descriptions) (node_description inode flags) closes is held.sound low free (vacant_free files.descriptions) (vacant_behind files.descriptions)
+    description_added files tree fd (vacant files.descriptions) (target_description (targets.Node inode) flags) closes is held.sound low free (vacant_free files.descriptions) (vacant_behind files.descriptions)
     (λ k other same. by_target other.target (is.there k other same))
     (has_stays files.tree tree inode held.kinds has)
     holds
     (λ device k first second. absurd (let f : ⊥ = cc in f))
   where
-    by_target : (t : Target) → IsThere files.tree files.devices t → IsThere tree files.devices t
+    by_target : (t : Target) → IsThere files.tree files.devices files.pipes t → IsThere tree files.devices files.pipes t
     by_target (targets.Node other) has = has_stays files.tree tree other held.kinds has
     by_target (targets.Device device) lives = lives
+    by_target (targets.Pipe pipe writes) stands = stands
 
     few : holders inode files.descriptions ≤ 256
     few =
@@ -448,3 +513,72 @@ node_opened files tree fd inode flags closes is low free has held =
           let o = one_other inode other far in
           omega arith
     ]
+
+-- ---- an end of a pipe that is opened
+
+pub end_opened : (files : Files) (fd pipe flags : ℕ) (writes closes : Bool) → IsSound files → fd < 256 → at files.descriptors fd ≡ None → is_open_by writes (at files.pipes pipe) ≡ true → ((number : ℕ) → lone_of (at files.descriptions number) ≡ Some (targets.Pipe pipe writes) → ⊥)
+    → IsSound (record { tree = files.tree; descriptors = set files.descriptors fd (Some (record { description = vacant files.descriptions; close_on_exec = closes })); descriptions = put (vacant files.descriptions) (target_description (targets.Pipe pipe writes) flags) files.descriptions; devices = files.devices; pipes = files.pipes })
+end_opened files fd pipe flags writes closes is low free stands fresh =
+    description_added files files.tree fd (vacant files.descriptions) (target_description (targets.Pipe pipe writes) flags) closes is is.tree low free (vacant_free files.descriptions) (vacant_behind files.descriptions)
+    is.there
+    stands
+    (λ inode. let h = is.holds inode in let z : one_in inode (targets.Pipe pipe writes) ≡ 0 = refl in omega arith)
+    (λ target k first second. fresh k (second ∙ sym first))
+
+-- ---- pipes
+
+-- where what stands open stays open
+pub pipes_changed : (files : Files) (pipes : List (Option Pipe)) → IsSound files → ((pipe : ℕ) (writes : Bool) → is_open_by writes (at files.pipes pipe) ≡ true → is_open_by writes (at pipes pipe) ≡ true) → IsSound (record { tree = files.tree; descriptors = files.descriptors; descriptions = files.descriptions; devices = files.devices; pipes = pipes })
+pipes_changed files pipes is stay = record {
+  tree = is.tree;
+  many = is.many;
+  named = is.named;
+  used = is.used;
+  there = λ k it here. by_target it.target (is.there k it here);
+  holds = is.holds;
+  once = is.once;
+}
+  where
+    by_target : (t : Target) → IsThere files.tree files.devices files.pipes t → IsThere files.tree files.devices pipes t
+    by_target (targets.Node inode) has = has
+    by_target (targets.Device device) lives = lives
+    by_target (targets.Pipe pipe writes) stands = stay pipe writes stands
+
+pub pipe_changed : (files : Files) (number : ℕ) (place : Option Pipe) → IsSound files → number < length files.pipes → ((writes : Bool) → is_open_by writes place ≡ is_open_by writes (at files.pipes number)) → IsSound (record { tree = files.tree; descriptors = files.descriptors; descriptions = files.descriptions; devices = files.devices; pipes = set files.pipes number place })
+pipe_changed files number place is within ends =
+    pipes_changed files (set files.pipes number place) is (λ pipe writes stands. elim (cases_eq pipe number) [
+      | inl e ↦
+          subst (λ (n : ℕ). is_open_by writes (at (set files.pipes number place) n) ≡ true) (sym e)
+          (ap (is_open_by writes) (at_same files.pipes number place within) ∙ (ends writes ∙ subst (λ (n : ℕ). is_open_by writes (at files.pipes n) ≡ true) e stands))
+      | inr apart ↦ ap (is_open_by writes) (at_other files.pipes number pipe place apart) ∙ stands
+    ])
+
+new_stands : (writes : Bool) → end_of_pipe writes new_pipe ≡ true
+new_stands true = refl
+new_stands false = refl
+
+pub pipe_added : (files : Files) → IsSound files → IsSound (with_new_pipe files)
+pipe_added files is =
+    pipes_changed files (put (vacant files.pipes) new_pipe files.pipes) is (λ pipe writes stands. elim (cases_eq pipe (vacant files.pipes)) [
+      | inl e ↦
+          subst (λ (n : ℕ). is_open_by writes (at (put (vacant files.pipes) new_pipe files.pipes) n) ≡ true) (sym e)
+          (ap (is_open_by writes) (put_same files.pipes (vacant files.pipes) new_pipe (vacant_behind files.pipes)) ∙ new_stands writes)
+      | inr apart ↦ ap (is_open_by writes) (put_other files.pipes (vacant files.pipes) pipe new_pipe (vacant_behind files.pipes) apart) ∙ stands
+    ])
+
+-- nothing is open for an end of a pipe that isn't there
+pub none_fresh : (files : Files) (pipe : ℕ) (writes : Bool) → IsSound files → at files.pipes pipe ≡ None → (number : ℕ) → lone_of (at files.descriptions number) ≡ Some (targets.Pipe pipe writes) → ⊥
+none_fresh files pipe writes is none number same = by_place (at files.descriptions number) refl same
+  where
+    by_target : (it : Description) (t : Target) → it.target ≡ t → at files.descriptions number ≡ Some it → lone_of (Some (record { target = t; flags = it.flags; offset = it.offset })) ≡ Some (targets.Pipe pipe writes) → ⊥
+    by_target it (targets.Node inode) target there same = let f : ⊥ = cc in f
+    by_target it (targets.Device device) target there same = let f : ⊥ = cc in f
+    by_target it (targets.Pipe p also) target there same =
+        let e : targets.Pipe p also ≡ targets.Pipe pipe writes = cc in
+        let stands : is_open_by writes (at files.pipes pipe) ≡ true = end_there files number pipe writes it is there (target ∙ e) in
+        let shut : is_open_by writes (at files.pipes pipe) ≡ false = ap (is_open_by writes) none in
+        let f : ⊥ = cc in f
+
+    by_place : (o : Option Description) → at files.descriptions number ≡ o → lone_of o ≡ Some (targets.Pipe pipe writes) → ⊥
+    by_place None there same = let f : ⊥ = cc in f
+    by_place (Some it) there same = by_target it it.target refl there same

@@ -9,9 +9,9 @@ use Rattle.file_tree.specs.Holds.{held}
 use Rattle.file_tree.specs.Whole.{IsSound as IsSoundTree}
 use Rattle.file_table.specs.declared.state.Descriptor.{Descriptor}
 use Rattle.file_table.specs.declared.state.Target.TheVariants as targets
-use Rattle.file_table.specs.Descriptors.{device_of}
+use Rattle.file_table.specs.Descriptors.{lone_of}
 use Rattle.file_table.specs.Flags.{closes_on_exec}
-use Rattle.file_table.specs.Opening.{bare, device_description, input_description, new_device, node_description, standing, started, vacant, vacant_from, with_devices, with_opened}
+use Rattle.file_table.specs.Opening.{bare, device_description, input_description, new_device, target_description, standing, started, vacant, vacant_from, with_devices, with_opened}
 use Rattle.file_table.specs.Sound.{AreReady, IsSound, holders, one_in}
 use Rattle.file_table.specs.State.{Files, at, put, lives_by}
 use Rattle.file_table.proofs.PlaceFacts.{at_other, put_other, put_same}
@@ -31,7 +31,7 @@ lives_at (suc n) zero low = refl
 lives_at (suc n) (suc k) low = lives_at n k (omega arith)
 
 -- nothing is open
-pub bare_sound : (tree : Tree) (places devices : ℕ) → places ≡ 256 → IsSoundTree tree → ((inode : ℕ) → holds_in tree inode ≡ 0) → IsSound (record { tree = tree; descriptors = replicate places None; descriptions = []; devices = replicate devices new_device })
+pub bare_sound : (tree : Tree) (places devices : ℕ) → places ≡ 256 → IsSoundTree tree → ((inode : ℕ) → holds_in tree inode ≡ 0) → IsSound (record { tree = tree; descriptors = replicate places None; descriptions = []; devices = replicate devices new_device; pipes = [] })
 unfolding holders
 bare_sound tree places devices many sound free = record {
   tree = sound;
@@ -69,7 +69,7 @@ pub stand_sound : (files : Files) (device : ℕ) → IsSound files → device < 
 stand_sound files device is low ready =
     description_added files files.tree device device (device_description device) false is is.tree low (ready.free device (omega arith)) (ready.unused device (omega arith)) ready.behind is.there (ready.lives device (omega arith))
     (λ inode. let h = is.holds inode in let z : one_in inode (targets.Device device) ≡ 0 = refl in omega arith)
-    (λ other k first second. let e : device ≡ other = cc in ready.fresh other k (omega arith) second)
+    (λ target k first second. ready.fresh device k (omega arith) (second ∙ sym first))
 
 pub ready_more : (files : Files) (device count : ℕ) → AreReady device count files → AreReady (device + 1) count (standing device (device_description device) files)
 ready_more files device count ready = record {
@@ -79,10 +79,10 @@ ready_more files device count ready = record {
   lives = ready.lives;
   fresh = λ other k low same. elim (cases_eq k device) [
     | inl e ↦
-        let p : Some device ≡ Some other = sym (ap device_of (put_same files.descriptions device (device_description device) ready.behind)) ∙ (ap (λ (n : ℕ). device_of (at (put device (device_description device) files.descriptions) n)) (sym e) ∙ same) in
+        let p : Some (targets.Device device) ≡ Some (targets.Device other) = sym (ap lone_of (put_same files.descriptions device (device_description device) ready.behind)) ∙ (ap (λ (n : ℕ). lone_of (at (put device (device_description device) files.descriptions) n)) (sym e) ∙ same) in
         let q : device ≡ other = cc in
         absurd (omega arith)
-    | inr apart ↦ ready.fresh other k (omega arith) (ap device_of (sym (put_other files.descriptions device k (device_description device) ready.behind apart)) ∙ same)
+    | inr apart ↦ ready.fresh other k (omega arith) (ap lone_of (sym (put_other files.descriptions device k (device_description device) ready.behind apart)) ∙ same)
   ];
 }
 
@@ -102,22 +102,23 @@ devices_end device count files high =
 input_by : (files : Files) (inode devices v : ℕ) → AreReady 0 devices files → v ≡ 0 → AreReady 1 devices (record {
   tree = held inode files.tree;
   descriptors = set files.descriptors 0 (Some (record { description = v; close_on_exec = closes_on_exec 0 }));
-  descriptions = put v (node_description inode 0) files.descriptions;
+  descriptions = put v (target_description (targets.Node inode) 0) files.descriptions;
   devices = files.devices;
+  pipes = files.pipes;
 })
 input_by files inode devices v ready first =
     let behind : v ≤ length files.descriptions = omega arith in
-    let long : v + 1 ≤ length (put v (node_description inode 0) files.descriptions) = length_put files.descriptions v (node_description inode 0) behind in
+    let long : v + 1 ≤ length (put v (target_description (targets.Node inode) 0) files.descriptions) = length_put files.descriptions v (target_description (targets.Node inode) 0) behind in
     record {
       behind = omega arith;
       free = λ number low. at_other files.descriptors 0 number (Some (record { description = v; close_on_exec = closes_on_exec 0 })) (λ same. absurd (omega arith)) ∙ ready.free number (omega arith);
-      unused = λ number low. put_other files.descriptions v number (node_description inode 0) behind (λ same. absurd (omega arith)) ∙ ready.unused number (omega arith);
+      unused = λ number low. put_other files.descriptions v number (target_description (targets.Node inode) 0) behind (λ same. absurd (omega arith)) ∙ ready.unused number (omega arith);
       lives = ready.lives;
       fresh = λ other k low same. elim (cases_eq k v) [
         | inl e ↦
-            let p : None ≡ Some other = sym (ap device_of (put_same files.descriptions v (node_description inode 0) behind)) ∙ (ap (λ (n : ℕ). device_of (at (put v (node_description inode 0) files.descriptions) n)) (sym e) ∙ same) in
+            let p : None ≡ Some (targets.Device other) = sym (ap lone_of (put_same files.descriptions v (target_description (targets.Node inode) 0) behind)) ∙ (ap (λ (n : ℕ). lone_of (at (put v (target_description (targets.Node inode) 0) files.descriptions) n)) (sym e) ∙ same) in
             absurd (let f : ⊥ = cc in f)
-        | inr apart ↦ ready.fresh other k (omega arith) (ap device_of (sym (put_other files.descriptions v k (node_description inode 0) behind apart)) ∙ same)
+        | inr apart ↦ ready.fresh other k (omega arith) (ap lone_of (sym (put_other files.descriptions v k (target_description (targets.Node inode) 0) behind apart)) ∙ same)
       ];
     }
 

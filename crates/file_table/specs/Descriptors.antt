@@ -1,6 +1,6 @@
 -- Descriptors that are made, changed and closed.
--- Source: dup(2), fcntl(2), close(2). That there are 256 descriptors is the project's own.
-use Rattle.std.specs.Prelude.{ℕ, ◌+◌, nat_le, nat_lt, ◌==◌, Bool, false, ◌&&◌, not, is_some, if◌then◌else◌, List, [], ◌∷◌, get_or, set, Option, Some, None, Result, Ok, Err}
+-- Source: dup(2), fcntl(2), close(2), pipe(7). That there are 256 descriptors is the project's own.
+use Rattle.std.specs.Prelude.{ℕ, ◌+◌, nat_le, nat_lt, ◌==◌, Bool, true, false, ◌&&◌, not, is_some, if◌then◌else◌, List, [], ◌∷◌, get_or, set, Option, Some, None, Result, Ok, Err}
 use Rattle.std.specs.List.{list_any}
 use Rattle.file_tree.specs.declared.errno.Errno.{Errno}
 use Rattle.file_tree.specs.declared.errno.Errno.TheVariants.{EBADF, EINVAL, EMFILE}
@@ -13,7 +13,7 @@ use Rattle.file_table.specs.declared.state.Target.{Target}
 use Rattle.file_table.specs.declared.state.Target.TheVariants as targets
 use Rattle.file_table.specs.Due.{Done, done}
 use Rattle.file_table.specs.Flags.{with_status}
-use Rattle.file_table.specs.State.{Files, at, with_open}
+use Rattle.file_table.specs.State.{Files, Pipe, at, with_open}
 
 -- the first free place of these at or above the least; the first of them has this number
 unfoldable pub free_from : {A : Type 0} → ℕ → ℕ → List (Option A) → Option ℕ
@@ -35,26 +35,37 @@ is_named number descriptors = list_any (names number) descriptors
 
 abbrev pub with_descriptor : ℕ → Option Descriptor → Files → Files
 with_descriptor fd descriptor files =
-    record { tree = files.tree; descriptors = set files.descriptors fd descriptor; descriptions = files.descriptions; devices = files.devices }
+    record { tree = files.tree; descriptors = set files.descriptors fd descriptor; descriptions = files.descriptions; devices = files.devices; pipes = files.pipes }
 
 abbrev pub no_device : Device
-no_device = record { output = []; live = false }
+no_device = record { output = []; input = []; ended = false; live = false }
 
 -- a device whose last description went
 abbrev pub dead : Device → Device
-dead device = record { output = device.output; live = false }
+dead device = record { output = device.output; input = device.input; ended = device.ended; live = false }
 
--- what a description held is let go: an entry of the tree is held once less, a device lives no more
+-- a pipe of which an end is closed, which goes with its last end
+abbrev pub without_end : Bool → Pipe → Option Pipe
+without_end true pipe = if pipe.reader then Some (record { bytes = pipe.bytes; reader = true; writer = false }) else None
+without_end false pipe = if pipe.writer then Some (record { bytes = pipe.bytes; reader = false; writer = true }) else None
+
+abbrev pub without_end_by : Bool → Option Pipe → Option Pipe
+without_end_by writes None = None
+without_end_by writes (Some pipe) = without_end writes pipe
+
+-- what a description held is let go: an entry of the tree is held once less, a device lives no more, an end of a pipe is closed
 abbrev pub let_go : Target → Files → Files
 let_go (targets.Node inode) files =
-    record { tree = released inode files.tree; descriptors = files.descriptors; descriptions = files.descriptions; devices = files.devices }
+    record { tree = released inode files.tree; descriptors = files.descriptors; descriptions = files.descriptions; devices = files.devices; pipes = files.pipes }
 let_go (targets.Device device) files =
-    record { tree = files.tree; descriptors = files.descriptors; descriptions = files.descriptions; devices = set files.devices device (dead (get_or files.devices device no_device)) }
+    record { tree = files.tree; descriptors = files.descriptors; descriptions = files.descriptions; devices = set files.devices device (dead (get_or files.devices device no_device)); pipes = files.pipes }
+let_go (targets.Pipe pipe writes) files =
+    record { tree = files.tree; descriptors = files.descriptors; descriptions = files.descriptions; devices = files.devices; pipes = set files.pipes pipe (without_end_by writes (at files.pipes pipe)) }
 
 abbrev pub without_description : ℕ → Option Description → Files → Files
 without_description number None files = files
 without_description number (Some gone) files =
-    let_go gone.target (record { tree = files.tree; descriptors = files.descriptors; descriptions = set files.descriptions number None; devices = files.devices })
+    let_go gone.target (record { tree = files.tree; descriptors = files.descriptors; descriptions = set files.descriptions number None; devices = files.devices; pipes = files.pipes })
 
 -- a description goes where no descriptor names it
 abbrev pub swept : ℕ → Files → Files
@@ -76,6 +87,22 @@ device_of (Some description) = device_in description.target
     device_in : Target → Option ℕ
     device_in (targets.Node inode) = None
     device_in (targets.Device device) = Some device
+    device_in (targets.Pipe pipe writes) = None
+
+-- a device, or an end of a pipe, which one description is open for alone
+abbrev pub lone_of : Option Description → Option Target
+lone_of None = None
+lone_of (Some description) = lone_in description.target
+  where
+    lone_in : Target → Option Target
+    lone_in (targets.Node inode) = None
+    lone_in (targets.Device device) = Some (targets.Device device)
+    lone_in (targets.Pipe pipe writes) = Some (targets.Pipe pipe writes)
+
+abbrev pub pipe_of : Target → Option ℕ
+pipe_of (targets.Node inode) = None
+pipe_of (targets.Device device) = None
+pipe_of (targets.Pipe pipe writes) = Some pipe
 
 -- the device whose last description goes
 abbrev pub lost : ℕ → Files → Option ℕ
@@ -123,7 +150,7 @@ marked fd closes files = marked_by (at files.descriptors fd) fd closes files
 
 abbrev pub with_description : ℕ → Description → Files → Files
 with_description number description files =
-    record { tree = files.tree; descriptors = files.descriptors; descriptions = set files.descriptions number (Some description); devices = files.devices }
+    record { tree = files.tree; descriptors = files.descriptors; descriptions = set files.descriptions number (Some description); devices = files.devices; pipes = files.pipes }
 
 abbrev pub flagged : ℕ → Description → Description
 flagged flags old = record { target = old.target; flags = with_status flags old.flags; offset = old.offset }
@@ -135,11 +162,12 @@ with_flags fd flags files = with_open fd files (Err EBADF) (λ number it. Ok (wi
 abbrev pub node_of : Target → Option ℕ
 node_of (targets.Node inode) = Some inode
 node_of (targets.Device device) = None
+node_of (targets.Pipe pipe writes) = None
 
 abbrev pub what_in : Descriptor → Option Description → Option Opened
 what_in descriptor None = None
 what_in descriptor (Some it) =
-    Some (record { node = node_of it.target; device = device_of (Some it); flags = it.flags; close_on_exec = descriptor.close_on_exec })
+    Some (record { node = node_of it.target; device = device_of (Some it); pipe = pipe_of it.target; flags = it.flags; close_on_exec = descriptor.close_on_exec })
 
 abbrev pub what_by : Option Descriptor → Files → Option Opened
 what_by None files = None

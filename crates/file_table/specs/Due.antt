@@ -50,10 +50,17 @@ LeavesAlways (Err errno) due old new = (due ≡ Err errno) × (new ≡ old)
 -- the same of a helper that changes the tree alone
 abbrev pub LeavesTree : {A : Type 0} → Result A FileFault → Result Tree Errno → Files → Files → Type 0
 LeavesTree (Ok value) due old new =
-    (due ≡ Ok new.tree) × (new ≡ record { tree = new.tree; descriptors = old.descriptors; descriptions = old.descriptions; devices = old.devices })
+    (due ≡ Ok new.tree) × (new ≡ record { tree = new.tree; descriptors = old.descriptors; descriptions = old.descriptions; devices = old.devices; pipes = old.pipes })
 LeavesTree (Err (faults.Errno errno)) due old new = (due ≡ Err errno) × (new ≡ old)
 LeavesTree (Err faults.Block) due old new = ⊥
 LeavesTree (Err faults.Memory) due old new = IsOk due × (new ≡ old)
+
+-- the same of a call that may wait
+abbrev pub Moves : {A : Type 0} → Result A FileFault → Result (Done A) FileFault → Files → Files → Type 0
+Moves (Ok value) due old new = due ≡ Ok (done new value)
+Moves (Err (faults.Errno errno)) due old new = (due ≡ Err (faults.Errno errno)) × (new ≡ old)
+Moves (Err faults.Block) due old new = (due ≡ Err faults.Block) × (new ≡ old)
+Moves (Err faults.Memory) due old new = IsOk due × (new ≡ old)
 
 -- a buffer whose first bytes, so many, are new, and whose rest is as before
 abbrev pub RestStays : ℕ → List ℕ → List ℕ → Type 0

@@ -85,6 +85,7 @@ listed_by inode (Some Dir) linked room index tree =
 
 abbrev pub listed_in : Target → ℕ → ℕ → Tree → Result Listed Errno
 listed_in (targets.Device device) room index tree = Err ENOTDIR
+listed_in (targets.Pipe pipe writes) room index tree = Err ENOTDIR
 listed_in (targets.Node inode) room index tree = listed_by inode (kind_in tree inode) (linked_in tree inode) room index tree
 
 abbrev pub listed_on : ℕ → Description → Files → Result Listed Errno → Result (Done (List ℕ)) Errno

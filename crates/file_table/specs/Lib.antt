@@ -5,5 +5,6 @@ pub mod Flags
 pub mod Moving
 pub mod Opening
 pub mod Paths
+pub mod Pipes
 pub mod Sound
 pub mod State

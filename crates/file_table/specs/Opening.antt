@@ -12,6 +12,7 @@ use Rattle.file_tree.specs.Making.{made}
 use Rattle.file_tree.specs.Walk.{walked}
 use Rattle.file_table.specs.declared.state.Description.{Description}
 use Rattle.file_table.specs.declared.state.Device.{Device}
+use Rattle.file_table.specs.declared.state.Target.{Target}
 use Rattle.file_table.specs.declared.state.Target.TheVariants as targets
 use Rattle.file_table.specs.Descriptors.{free_place}
 use Rattle.file_table.specs.Due.{Done, done, and_then}
@@ -22,11 +23,11 @@ use Rattle.file_table.specs.State.{Files, put}
 -- ---- the start
 
 abbrev pub new_device : Device
-new_device = record { output = []; live = true }
+new_device = record { output = []; input = []; ended = false; live = true }
 
 -- no descriptor is open
 unfoldable pub bare : Tree → ℕ → Files
-bare tree devices = record { tree = tree; descriptors = replicate 256 None; descriptions = []; devices = replicate devices new_device }
+bare tree devices = record { tree = tree; descriptors = replicate 256 None; descriptions = []; devices = replicate devices new_device; pipes = [] }
 
 -- a descriptor and a description of the same number
 abbrev pub standing : ℕ → Description → Files → Files
@@ -35,6 +36,7 @@ standing number description files = record {
   descriptors = set files.descriptors number (Some (record { description = number; close_on_exec = false }));
   descriptions = put number description files.descriptions;
   devices = files.devices;
+  pipes = files.pipes;
 }
 
 -- a device for reading and writing
@@ -58,25 +60,30 @@ started tree devices (Some inode) =
 
 -- ---- opening
 
--- the least number that no description has
-unfoldable pub vacant_from : ℕ → List (Option Description) → ℕ
+-- the least number that nothing has
+unfoldable pub vacant_from : {A : Type 0} → ℕ → List (Option A) → ℕ
 vacant_from number [] = number
 vacant_from number (place ∷ places) = if is_some place then vacant_from (number + 1) places else number
 
-abbrev pub vacant : List (Option Description) → ℕ
+abbrev pub vacant : {A : Type 0} → List (Option A) → ℕ
 vacant places = vacant_from 0 places
 
-abbrev pub node_description : ℕ → ℕ → Description
-node_description inode flags = record { target = targets.Node inode; flags = kept flags; offset = 0 }
+abbrev pub target_description : Target → ℕ → Description
+target_description target flags = record { target = target; flags = kept flags; offset = 0 }
 
--- a descriptor with a description of its own, which holds the entry
-abbrev pub with_opened : ℕ → ℕ → ℕ → Files → Files
-with_opened fd inode flags files = record {
-  tree = held inode files.tree;
+-- a descriptor with a description of its own
+abbrev pub with_target : ℕ → Target → ℕ → Files → Files
+with_target fd target flags files = record {
+  tree = files.tree;
   descriptors = set files.descriptors fd (Some (record { description = vacant files.descriptions; close_on_exec = closes_on_exec flags }));
-  descriptions = put (vacant files.descriptions) (node_description inode flags) files.descriptions;
+  descriptions = put (vacant files.descriptions) (target_description target flags) files.descriptions;
   devices = files.devices;
+  pipes = files.pipes;
 }
+
+-- one that holds an entry
+abbrev pub with_opened : ℕ → ℕ → ℕ → Files → Files
+with_opened fd inode flags files = with_target fd (targets.Node inode) flags (with_tree (held inode files.tree) files)
 
 abbrev pub opens : ℕ → ℕ → ℕ → Files → Result (Done ℕ) Errno
 opens fd inode flags files = Ok (done (with_opened fd inode flags files) fd)

@@ -22,6 +22,7 @@ directory_by inode (Some Dir) = Ok inode
 abbrev pub directory_in : Tree → Target → Result ℕ Errno
 directory_in tree (targets.Node inode) = directory_by inode (kind_in tree inode)
 directory_in tree (targets.Device device) = Err ENOTDIR
+directory_in tree (targets.Pipe pipe writes) = Err ENOTDIR
 
 -- the directory that a descriptor names; -100 is the root
 unfoldable pub dir_of : ℤ → Files → Result ℕ Errno
@@ -38,7 +39,7 @@ abbrev pub base : ℤ → List ℕ → Files → Result ℕ Errno
 base dir path files = if is_absolute path then Ok 1 else dir_of dir files
 
 abbrev pub with_tree : Tree → Files → Files
-with_tree tree files = record { tree = tree; descriptors = files.descriptors; descriptions = files.descriptions; devices = files.devices }
+with_tree tree files = record { tree = tree; descriptors = files.descriptors; descriptions = files.descriptions; devices = files.devices; pipes = files.pipes }
 
 abbrev pub put_tree : Result Tree Errno → Files → Result Files Errno
 put_tree (Err errno) files = Err errno

@@ -1,11 +1,17 @@
--- The descriptors of a process, what they name, its devices and its tree of files.
--- Source: open(2): a descriptor names an open file description, and several may name one. The numbers of descriptions are
--- the project's own.
+-- The descriptors of a process, what they name, its devices, its pipes and its tree of files.
+-- Source: open(2): a descriptor names an open file description, and several may name one; pipe(7). The numbers of
+-- descriptions and of pipes are the project's own.
 use Rattle.std.specs.Prelude.{◌≡◌, ℕ, Bool, true, false, nat_lt, if◌then◌else◌, List, [], ◌∷◌, ◌++◌, length, get_or, map, set, slice_get, Option, Some, None}
 use Rattle.file_tree.specs.Nodes.{Tree}
 use Rattle.file_table.specs.declared.state.Descriptor.{Descriptor}
 use Rattle.file_table.specs.declared.state.Description.{Description}
 use Rattle.file_table.specs.declared.state.Device.{Device}
+
+-- a pipe: its bytes, the first one first, and which of its ends are open
+pub record Pipe : Type 0 where
+  pub bytes : List ℕ
+  pub reader : Bool
+  pub writer : Bool
 
 pub record Files : Type 0 where
   pub tree : Tree
@@ -13,6 +19,7 @@ pub record Files : Type 0 where
   pub descriptors : List (Option Descriptor)
   pub descriptions : List (Option Description)
   pub devices : List Device
+  pub pipes : List (Option Pipe)
 
 -- what stands at a place
 abbrev pub at : {A : Type 0} → List (Option A) → ℕ → Option A
@@ -53,6 +60,18 @@ output_of (Some device) = device.output
 abbrev pub lives_by : Option Device → Bool
 lives_by None = false
 lives_by (Some device) = device.live
+
+abbrev pub bytes_by : Option Pipe → List ℕ
+bytes_by None = []
+bytes_by (Some pipe) = pipe.bytes
+
+-- which end of a pipe
+abbrev pub end_of_pipe : Bool → Pipe → Bool
+end_of_pipe writes pipe = if writes then pipe.writer else pipe.reader
+
+abbrev pub is_open_by : Bool → Option Pipe → Bool
+is_open_by writes None = false
+is_open_by writes (Some pipe) = end_of_pipe writes pipe
 
 -- each device that lives lived before
 abbrev pub OnlyDie : List Device → List Device → Type 0

@@ -9,6 +9,7 @@ ghost use Rattle.file_table.specs.Sound.{IsThere};
 ghost use Rattle.file_table.specs.State.{at, open_as};
 
 use crate::files::{Files, at};
+use crate::pipes::close_end;
 use crate::state::{Description, Descriptor, Opened, Target};
 use file_tree::Errno;
 
@@ -20,7 +21,7 @@ pub struct Closed {
 }
 
 /// Whether a place is free, and isn't below the least.
-fn is_free<T: Copy>(places: &[Option<T>], number: usize, least: usize) -> bool
+fn is_free<T>(places: &[Option<T>], number: usize, least: usize) -> bool
     requires { number < length places.now }
     ensures { result ≡ (nat_le least number && not (is_some (at places.now number))) }
 {
@@ -29,7 +30,7 @@ fn is_free<T: Copy>(places: &[Option<T>], number: usize, least: usize) -> bool
 
 /// The least free place at or above one.
 #[tactic(auto, using(crate::proofs::DescriptorFacts::free_more, crate::proofs::DescriptorFacts::free_past))]
-pub(crate) fn free_place<T: Copy>(places: &[Option<T>], least: usize) -> Option<usize>
+pub(crate) fn free_place<T>(places: &[Option<T>], least: usize) -> Option<usize>
     ensures { result ≡ free_place least places.now }
 {
     let mut number = 0;
@@ -67,7 +68,7 @@ impl Files {
     pub(crate) fn open_as(&self, fd: u64) -> Option<(usize, Description)>
         ensures is { result ≡ open_as fd self.now }
         ensures at { IfSome result (λ it. at self.now.descriptions it.0 ≡ Some it.1) }
-        ensures there { IfSome result (λ it. IsThere self.now.tree self.now.devices it.1.target) }
+        ensures there { IfSome result (λ it. IsThere self.now.tree self.now.devices self.now.pipes it.1.target) }
     {
         match at(self.descriptors.as_slice(), fd) {
             Some(descriptor) => {
@@ -94,6 +95,7 @@ impl Files {
         ensures is { result ≡ free_place least self.now.descriptors }
         ensures free { IfSome result (λ place. at self.now.descriptors place ≡ None) }
         ensures low { IfSome result (λ place. place < 256) }
+        ensures least { IfSome result (λ place. least ≤ place) }
     {
         free_place(self.descriptors.as_slice(), least)
     }
@@ -130,6 +132,10 @@ impl Files {
                     Target::Device(device) => {
                         self.devices[device].live = false;
                         Some(device)
+                    }
+                    Target::Pipe { pipe, writes } => {
+                        close_end(&mut self.pipes[pipe], writes);
+                        None
                     }
                 }
             }
@@ -324,13 +330,15 @@ fn another(descriptor: Descriptor, close_on_exec: bool) -> Descriptor
 fn opened(descriptor: Descriptor, it: Description) -> Opened
     ensures { Some result ≡ what_in descriptor (Some it) }
 {
-    let (node, device) = match it.target {
-        Target::Node(inode) => (Some(inode), None),
-        Target::Device(device) => (None, Some(device)),
+    let (node, device, pipe) = match it.target {
+        Target::Node(inode) => (Some(inode), None, None),
+        Target::Device(device) => (None, Some(device), None),
+        Target::Pipe { pipe, .. } => (None, None, Some(pipe)),
     };
     Opened {
         node,
         device,
+        pipe,
         flags: it.flags,
         close_on_exec: descriptor.close_on_exec,
     }

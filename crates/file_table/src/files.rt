@@ -6,6 +6,7 @@ ghost use Rattle.file_table.specs.Opening.{started};
 ghost use Rattle.file_table.specs.Sound.{IsSound};
 ghost use Rattle.file_table.specs.State.{at, lives_by, outputs_of};
 
+use crate::pipes::Pipe;
 use crate::state::{Description, Descriptor, Device};
 use file_tree::Tree;
 use std::alloc::{AllocError, Global};
@@ -22,6 +23,7 @@ pub struct Files {
     /// It has room for as many as there are descriptors, so that no description is refused for want of memory.
     pub(crate) descriptions: Vec<Option<Description>>,
     pub(crate) devices: Vec<Device>,
+    pub(crate) pipes: Vec<Option<Pipe>>,
 }
 
 impl Model for Files {
@@ -36,6 +38,7 @@ impl Model for Files {
       descriptors = files.descriptors.items;
       descriptions = files.descriptions.items;
       devices = files.devices.items;
+      pipes = files.pipes.items;
     } };
 
     ghost invariant = { λ files. IsSound (record {
@@ -43,6 +46,7 @@ impl Model for Files {
       descriptors = files.descriptors.items;
       descriptions = files.descriptions.items;
       devices = files.devices.items;
+      pipes = files.pipes.items;
     }) × (256 ≤ vec_capacity files.descriptions) };
 }
 

@@ -44,7 +44,7 @@ impl Files {
                         Err(fault) => Err(fault),
                     }
                 }
-                Target::Device(_) => Err(FileFault::Errno(Errno::ENOTDIR)),
+                Target::Device(_) | Target::Pipe { .. } => { Err(FileFault::Errno(Errno::ENOTDIR)) }
             },
             None => Err(FileFault::Errno(Errno::EBADF)),
         }

@@ -1,19 +1,22 @@
 //! Bytes that are read and written, and offsets.
 
-ghost use Rattle.std.specs.Prelude.{◌≡◌, ℕ, ◌+◌, ◌^◌, ◌<◌, ◌≤◌, max, true, ◌+ℤ◌, pos, length, slice_get, Some, Ok, Err, IfOk, IfErr, IfSome, OnOk};
+ghost use Rattle.std.specs.Prelude.{◌≡◌, ◌≢◌, ℕ, Bool, List, option_map, ◌+◌, ◌^◌, ◌<◌, ◌≤◌, ◌==◌, ◌||◌, not, max, true, false, ◌+ℤ◌, pos, length, take, get_or, slice_get, Some, None, Ok, Err, IfOk, IfErr, IfSome, OnOk};
 ghost use Rattle.file_tree.specs.declared.kind.Kind.TheVariants.{File};
 ghost use Rattle.file_tree.specs.Files.{truncated};
 ghost use Rattle.file_tree.specs.Nodes.{Has, kind_in};
 ghost use Rattle.file_table.specs.declared.state.Target.TheVariants as targets;
-ghost use Rattle.file_table.specs.Due.{Answers, AnswersAlways, Leaves, LeavesTree, Reads, ReadsAlways, done};
+ghost use Rattle.file_table.specs.declared.fault.FileFault.TheVariants as faults;
+ghost use Rattle.file_table.specs.Descriptors.{no_device, pipe_of};
+ghost use Rattle.file_table.specs.Due.{Answers, AnswersAlways, Leaves, LeavesTree, Moves, Reads, ReadsAlways, RestStays, done};
 ghost use Rattle.file_table.specs.Flags.{can_read, can_write};
-ghost use Rattle.file_table.specs.Moving.{advanced, counted_from, cut, file_read, file_written, lawful, past, peek, peek_target, place_of, read, read_at, read_target, read_target_at, seek, truncate, with_devices, with_output, write, write_at, write_target, write_target_at};
+ghost use Rattle.file_table.specs.Moving.{advanced, counted_from, cut, file_read, file_written, given, given_by, lawful, more_bytes, past, peek, place_of, read, read_at, read_device, read_pipe, read_target, read_target_at, seek, standing, taken_by, takes_by, truncate, waits, without_bytes, without_input, with_devices, with_output, write, write_at, write_node, write_pipe, write_target_at};
 ghost use Rattle.file_table.specs.Sound.{IsThere};
-ghost use Rattle.file_table.specs.State.{at, lives_by, open_as};
+ghost use Rattle.file_table.specs.State.{at, bytes_by, is_open_by, lives_by, open_as};
 
 use crate::fault::FileFault;
 use crate::files::Files;
-use crate::state::{Description, Target};
+use crate::pipes::Pipe;
+use crate::state::{Description, Device, Target};
 use file_tree::{Errno, Inode, Kind, TreeFault};
 
 /// The flag of a description that appends.
@@ -22,6 +25,9 @@ const APPEND: u64 = 0x400;
 /// The flag of a description that never waits.
 const NO_WAIT: u64 = 0x800;
 
+/// The most bytes that are written to a pipe whole or not at all.
+const WHOLE_SIZE: usize = 4096;
+
 /// One more than the largest offset.
 const OFFSET_END: u64 = 0x8000_0000_0000_0000;
 
@@ -29,10 +35,13 @@ impl Files {
     /// Reads bytes at the description's offset, which goes on by their number, and tells how many; none at the end of the
     /// file, or behind it. It costs by their number, and takes no memory.
     ///
-    /// It is refused with `EBADF` where the descriptor isn't open for reading, then with `EISDIR` at a directory. A device
-    /// has no bytes: the call waits, or is refused with `EAGAIN` where the description never waits.
+    /// From a device it takes bytes that came in, and from a pipe those that were written to it, as many as are there and fit.
+    /// Where none are there and more may come, the call waits, or is refused with `EAGAIN` where the description never waits.
+    /// A read of no bytes never waits.
     ///
-    /// References: read(2).
+    /// It is refused with `EBADF` where the descriptor isn't open for reading, then with `EISDIR` at a directory.
+    ///
+    /// References: read(2), pipe(7).
     #[tactic(auto, unfolding(crate::specs::Moving::read))]
     pub fn read(&mut self, fd: u64, into: &mut [u8]) -> Result<usize, FileFault>
         ensures { Reads result (read fd (length into.old) self.old) into.old into.new self.old self.new }
@@ -49,46 +58,55 @@ impl Files {
     }
 
     /// The bytes that `read` would give for a buffer of this size, as they stand in the file; nothing moves. It takes constant
-    /// time, and is refused as `read` is.
+    /// time. It is refused as `read` is, and with `ESPIPE` at a device or a pipe.
     ///
     /// References: read(2).
     #[tactic(auto, unfolding(crate::specs::Moving::peek))]
-    pub fn peek(&self, fd: u64, size: u64) -> Result<&[u8], FileFault>
+    pub fn peek(&self, fd: u64, size: u64) -> Result<&[u8], Errno>
         ensures bytes { IfOk result (λ bytes. peek fd size self.now ≡ Ok bytes.now) }
-        ensures fault { IfErr result (λ fault. peek fd size self.now ≡ Err fault) }
+        ensures fault { IfErr result (λ errno. peek fd size self.now ≡ Err errno) }
         ensures low { IfOk result (λ bytes. IfSome (open_as fd self.now) (λ it. it.1.offset + length bytes.now < 2 ^ 64)) }
         ensures few { IfOk result (λ bytes. length bytes.now ≤ size) }
     {
         match self.open_as(fd) {
             Some((_, it)) => {
                 if !can_read(it.flags) {
-                    return Err(FileFault::Errno(Errno::EBADF));
+                    return Err(Errno::EBADF);
                 }
-                self.peek_target(it, size)
+                match it.target {
+                    Target::Node(inode) => self.file_part(inode, it.offset, size),
+                    Target::Device(_) | Target::Pipe { .. } => Err(Errno::ESPIPE),
+                }
             }
-            None => Err(FileFault::Errno(Errno::EBADF)),
+            None => Err(Errno::EBADF),
         }
     }
 
-    /// The bytes of what a description is open for.
-    fn peek_target(&self, it: Description, size: u64) -> Result<&[u8], FileFault>
-        requires { IsThere self.now.tree self.now.devices it.target }
-        ensures bytes { IfOk result (λ bytes. peek_target it.target it size self.now ≡ Ok bytes.now) }
-        ensures fault { IfErr result (λ fault. peek_target it.target it size self.now ≡ Err fault) }
-        ensures low { IfOk result (λ bytes. it.offset + length bytes.now < 2 ^ 64) }
-        ensures few { IfOk result (λ bytes. length bytes.now ≤ size) }
+    /// How many bytes stand ready at the device, or in the pipe, that a descriptor is open for; nothing where it isn't open, or
+    /// for a file or a directory. It takes constant time.
+    ///
+    /// References: pipe(7).
+    #[tactic(auto, unfolding(crate::specs::Moving::standing))]
+    pub fn standing(&self, fd: u64) -> Option<u64>
+        ensures { result ≡ standing fd self.now }
     {
-        match it.target {
-            Target::Node(inode) => match self.file_part(inode, it.offset, size) {
-                Ok(bytes) => Ok(bytes),
-                Err(errno) => Err(FileFault::Errno(errno)),
+        match self.open_as(fd) {
+            Some((_, it)) => match it.target {
+                Target::Node(_) => None,
+                Target::Device(device) => Some(self.devices[device].input.len() as u64),
+                Target::Pipe { pipe, .. } => Some(self.pipe_len(pipe)),
             },
-            Target::Device(_) => {
-                if it.flags & NO_WAIT == NO_WAIT {
-                    return Err(FileFault::Errno(Errno::EAGAIN));
-                }
-                Err(FileFault::Block)
-            }
+            None => None,
+        }
+    }
+
+    /// How many bytes a pipe has.
+    fn pipe_len(&self, number: usize) -> u64
+        ensures { result ≡ length (bytes_by (at self.now.pipes number)) }
+    {
+        match self.pipes.get(number) {
+            Some(Some(pipe)) => pipe.len() as u64,
+            Some(None) | None => 0,
         }
     }
 
@@ -127,7 +145,7 @@ impl Files {
         into: &mut [u8],
     ) -> Result<usize, FileFault>
         requires at { at self.old.descriptions number ≡ Some it }
-        requires there { IsThere self.old.tree self.old.devices it.target }
+        requires there { IsThere self.old.tree self.old.devices self.old.pipes it.target }
         ensures { Reads result (read_target it.target number it (length into.old) self.old) into.old into.new self.old self.new }
     {
         match it.target {
@@ -138,13 +156,30 @@ impl Files {
                 }
                 Err(errno) => Err(FileFault::Errno(errno)),
             },
-            Target::Device(_) => {
-                if it.flags & NO_WAIT == NO_WAIT {
-                    return Err(FileFault::Errno(Errno::EAGAIN));
-                }
-                Err(FileFault::Block)
-            }
+            Target::Device(device) => self.read_device(device, it.flags, into),
+            Target::Pipe { pipe, .. } => self.read_pipe(pipe, it.flags, into),
         }
+    }
+
+    /// Reads bytes that came in at a device.
+    fn read_device(
+        &mut self,
+        number: usize,
+        flags: u64,
+        into: &mut [u8],
+    ) -> Result<usize, FileFault>
+        requires { number < length self.old.devices }
+        ensures { Reads result (read_device number (get_or self.old.devices number no_device) flags (length into.old) self.old) into.old into.new self.old self.new }
+    {
+        give_input(&mut self.devices[number], flags, into)
+    }
+
+    /// Reads bytes of a pipe.
+    fn read_pipe(&mut self, number: usize, flags: u64, into: &mut [u8]) -> Result<usize, FileFault>
+        requires { number < length self.old.pipes }
+        ensures { Reads result (read_pipe number (at self.old.pipes number) flags (length into.old) self.old) into.old into.new self.old self.new }
+    {
+        give_from(&mut self.pipes[number], flags, into)
     }
 
     /// Reads from an entry of the tree.
@@ -178,7 +213,7 @@ impl Files {
                 }
                 match it.target {
                     Target::Node(inode) => self.file_read(inode, offset, into),
-                    Target::Device(_) => Err(Errno::ESPIPE),
+                    Target::Device(_) | Target::Pipe { .. } => Err(Errno::ESPIPE),
                 }
             }
             None => Err(Errno::EBADF),
@@ -202,7 +237,7 @@ impl Files {
                 }
                 match it.target {
                     Target::Node(inode) => self.file_part(inode, offset, size),
-                    Target::Device(_) => Err(Errno::ESPIPE),
+                    Target::Device(_) | Target::Pipe { .. } => Err(Errno::ESPIPE),
                 }
             }
             None => Err(Errno::EBADF),
@@ -213,14 +248,20 @@ impl Files {
     /// is behind them then, and stays where there are none. A device takes all bytes behind what it has. It costs by the
     /// number of bytes, and of the zeros in front of them where the offset is behind the file's end; its memory is theirs.
     ///
+    /// To a pipe up to 4,096 bytes are written whole or not at all. Of more, those that fit are written where not all fit and
+    /// the description never waits. Where the call would wait for room, it does so, or is refused with `EAGAIN` where the
+    /// description never waits. Where nobody reads, it is refused with `EPIPE`. No bytes are written at once. A write to a pipe
+    /// takes no memory.
+    ///
     /// It is refused with `EBADF` where the descriptor isn't open for writing, then with `EFBIG` where the file would be too
     /// large, and with `ENOSPC` where all files together would be.
     ///
     /// References: write(2).
     #[tactic(auto, unfolding(crate::specs::Moving::write))]
     pub fn write(&mut self, fd: u64, bytes: &[u8]) -> Result<usize, FileFault>
-        ensures answer { Answers result (write fd bytes.now self.old) self.old self.new }
-        ensures all { IfOk result (λ count. count ≡ length bytes.now) }
+        ensures answer { Moves result (write fd bytes.now self.old) self.old self.new }
+        ensures few { IfOk result (λ count. count ≤ length bytes.now) }
+        ensures memory { result ≡ Err faults.Memory → IfSome (open_as fd self.old) (λ it. pipe_of it.1.target ≡ None) }
     {
         match self.open_as(fd) {
             Some((number, it)) => {
@@ -230,6 +271,7 @@ impl Files {
                 match it.target {
                     Target::Node(inode) => self.write_node(number, it, inode, bytes),
                     Target::Device(device) => self.write_device(device, bytes),
+                    Target::Pipe { pipe, .. } => self.write_pipe(pipe, it.flags, bytes),
                 }
             }
             None => Err(FileFault::Errno(Errno::EBADF)),
@@ -246,7 +288,7 @@ impl Files {
     ) -> Result<usize, FileFault>
         requires at { at self.old.descriptions number ≡ Some it }
         requires there { Has self.old.tree inode }
-        ensures answer { Answers result (write_target (targets.Node inode) number it bytes.now self.old) self.old self.new }
+        ensures answer { Answers result (write_node inode number it bytes.now self.old) self.old self.new }
         ensures all { IfOk result (λ count. count ≡ length bytes.now) }
     {
         let place = self.place_of(it.flags, inode, it.offset);
@@ -299,6 +341,16 @@ impl Files {
         }
     }
 
+    /// Writes to a pipe.
+    fn write_pipe(&mut self, number: usize, flags: u64, bytes: &[u8]) -> Result<usize, FileFault>
+        requires { number < length self.old.pipes }
+        ensures answer { Moves result (write_pipe number (at self.old.pipes number) bytes.now flags self.old) self.old self.new }
+        ensures few { IfOk result (λ count. count ≤ length bytes.now) }
+        ensures memory { result ≢ Err faults.Memory }
+    {
+        take_into(&mut self.pipes[number], flags, bytes)
+    }
+
     /// Writes bytes at an offset that is given, or at the end of a file where the description appends. The description's
     /// own offset stays. It costs what a write does.
     ///
@@ -317,7 +369,9 @@ impl Files {
                 }
                 match it.target {
                     Target::Node(inode) => self.write_node_at(it.flags, inode, offset, bytes),
-                    Target::Device(_) => Err(FileFault::Errno(Errno::ESPIPE)),
+                    Target::Device(_) | Target::Pipe { .. } => {
+                        Err(FileFault::Errno(Errno::ESPIPE))
+                    }
                 }
             }
             None => Err(FileFault::Errno(Errno::EBADF)),
@@ -370,7 +424,7 @@ impl Files {
                     },
                     Err(errno) => Err(errno),
                 },
-                Target::Device(_) => Err(Errno::ESPIPE),
+                Target::Device(_) | Target::Pipe { .. } => Err(Errno::ESPIPE),
             },
             None => Err(Errno::EBADF),
         }
@@ -403,7 +457,7 @@ impl Files {
         match self.open_as(fd) {
             Some((_, it)) => match it.target {
                 Target::Node(inode) => self.cut(inode, it.flags, size),
-                Target::Device(_) => Err(FileFault::Errno(Errno::EINVAL)),
+                Target::Device(_) | Target::Pipe { .. } => { Err(FileFault::Errno(Errno::EINVAL)) }
             },
             None => Err(FileFault::Errno(Errno::EBADF)),
         }
@@ -440,6 +494,92 @@ impl Files {
             Err(TreeFault::Memory) => Err(FileFault::Memory),
         }
     }
+}
+
+/// Moves bytes that came in at a device out, as many as fit.
+fn give_input(device: &mut Device, flags: u64, into: &mut [u8]) -> Result<usize, FileFault>
+    ensures given { IfOk result (λ count. (given (not device.old.ended) device.old.input flags (length into.old) ≡ Ok (take count into.new)) × RestStays count into.old into.new) }
+    ensures left { IfOk result (λ count. (count ≡ length (take count into.new)) × (device.new ≡ without_input count device.old)) }
+    ensures fault { IfErr result (λ fault. (given (not device.old.ended) device.old.input flags (length into.old) ≡ Err fault) × (into.new ≡ into.old) × (device.new ≡ device.old)) }
+    ensures memory { result ≢ Err faults.Memory }
+    ensures live { device.new.live ≡ device.old.live }
+{
+    if !is_ready(into.len(), device.input.len(), !device.ended) {
+        return Err(waits(flags));
+    }
+    Ok(device.input.give(into))
+}
+
+/// Moves the first bytes of a pipe out, as many as fit.
+fn give_from(place: &mut Option<Pipe>, flags: u64, into: &mut [u8]) -> Result<usize, FileFault>
+    ensures given { IfOk result (λ count. (given_by place.old flags (length into.old) ≡ Ok (take count into.new)) × RestStays count into.old into.new) }
+    ensures left { IfOk result (λ count. (count ≡ length (take count into.new)) × (place.new ≡ option_map (without_bytes count) place.old)) }
+    ensures fault { IfErr result (λ fault. (given_by place.old flags (length into.old) ≡ Err fault) × (into.new ≡ into.old) × (place.new ≡ place.old)) }
+    ensures memory { result ≢ Err faults.Memory }
+    ensures ends { (writes : Bool) → is_open_by writes place.new ≡ is_open_by writes place.old }
+{
+    match place {
+        Some(pipe) => {
+            if !is_ready(into.len(), pipe.len(), pipe.writer) {
+                return Err(waits(flags));
+            }
+            Ok(pipe.give(into))
+        }
+        None => Err(FileFault::Errno(Errno::EBADF)),
+    }
+}
+
+/// Puts bytes into a pipe, as it takes them.
+fn take_into(place: &mut Option<Pipe>, flags: u64, bytes: &[u8]) -> Result<usize, FileFault>
+    ensures moved { IfOk result (λ count. (takes_by place.old flags (length bytes.now) ≡ Ok count) × (place.new ≡ option_map (more_bytes (take count bytes.now)) place.old)) }
+    ensures fault { IfErr result (λ fault. (takes_by place.old flags (length bytes.now) ≡ Err fault) × (place.new ≡ place.old)) }
+    ensures few { IfOk result (λ count. count ≤ length bytes.now) }
+    ensures memory { result ≢ Err faults.Memory }
+    ensures ends { (writes : Bool) → is_open_by writes place.new ≡ is_open_by writes place.old }
+{
+    match place {
+        Some(pipe) => write_to(pipe, flags, bytes),
+        None => Err(FileFault::Errno(Errno::EBADF)),
+    }
+}
+
+/// Writes to a pipe.
+fn write_to(pipe: &mut Pipe, flags: u64, bytes: &[u8]) -> Result<usize, FileFault>
+    ensures moved { IfOk result (λ count. (taken_by pipe.old flags (length bytes.now) ≡ Ok count) × (pipe.new ≡ more_bytes (take count bytes.now) pipe.old)) }
+    ensures fault { IfErr result (λ fault. (taken_by pipe.old flags (length bytes.now) ≡ Err fault) × (pipe.new ≡ pipe.old)) }
+    ensures few { IfOk result (λ count. count ≤ length bytes.now) }
+    ensures memory { result ≢ Err faults.Memory }
+{
+    if !bytes.is_empty() && !pipe.reader {
+        return Err(FileFault::Errno(Errno::EPIPE));
+    }
+    let room = pipe.room();
+    if bytes.len() > room {
+        let goes_in_part = bytes.len() > WHOLE_SIZE && flags & NO_WAIT == NO_WAIT && room > 0;
+        if !goes_in_part {
+            return Err(waits(flags));
+        }
+    }
+    Ok(pipe.take(bytes))
+}
+
+/// Whether a read of so many bytes is done at once, where so many are there.
+fn is_ready(size: usize, count: usize, more: bool) -> bool
+    ensures { result ≡ ((size == 0) || (not (count == 0) || not more)) }
+{
+    size == 0 || count != 0 || !more
+}
+
+/// What a call comes to that would wait.
+fn waits(flags: u64) -> FileFault
+    ensures is { waits {A = ℕ} flags ≡ Err result }
+    ensures reads { waits {A = List ℕ} flags ≡ Err result }
+    ensures memory { result ≢ faults.Memory }
+{
+    if flags & NO_WAIT == NO_WAIT {
+        return FileFault::Errno(Errno::EAGAIN);
+    }
+    FileFault::Block
 }
 
 /// Whether a description can be read.

@@ -1,19 +1,22 @@
 //! The start, and the opening of files.
 
 ghost use Rattle.std.specs.Prelude.{◌≡◌, ℕ, ◌+◌, ◌-◌, replicate, ◌<◌, ◌≤◌, length, vec_capacity, true, Some, None, Ok, IfOk, IfSome};
+ghost use Rattle.file_table.specs.declared.state.Target.TheVariants as targets;
+ghost use Rattle.file_table.specs.Descriptors.{lone_of};
 ghost use Rattle.file_tree.specs.declared.kind.Kind.TheVariants.{File};
 ghost use Rattle.file_tree.specs.Making.{made};
 ghost use Rattle.file_tree.specs.Nodes.{Has, kind_in, holds_in};
 ghost use Rattle.file_table.specs.Due.{Answers, LeavesTree};
 ghost use Rattle.file_table.specs.Flags.{are_wrong, changes, has, kept};
-ghost use Rattle.file_table.specs.Opening.{bare, device_description, new_device, open_from, open_kind, open_made, open_there, opened, standing, started, vacant, with_devices, with_opened};
+ghost use Rattle.file_table.specs.Opening.{bare, device_description, new_device, open_from, open_kind, open_made, open_there, opened, standing, started, target_description, vacant, with_devices, with_opened, with_target};
 ghost use Rattle.file_table.specs.Sound.{AreReady};
-ghost use Rattle.file_table.specs.State.{at, put};
+ghost use Rattle.file_table.specs.State.{at, is_open_by, put};
 
 use crate::descriptors::free_place;
 use crate::fault::FileFault;
 use crate::files::{COUNT, Files};
 use crate::moving::can_write;
+use crate::pipes::Input;
 use crate::state::{Description, Descriptor, Device, Target};
 use bitflags::Flags;
 use call_table::OpenFlags;
@@ -91,6 +94,7 @@ impl Files {
             descriptors,
             descriptions,
             devices,
+            pipes: Vec::new(alloc),
         })
     }
 
@@ -292,12 +296,39 @@ impl Files {
         put(
             &mut self.descriptions,
             number,
-            Description {
-                target: Target::Node(inode),
-                flags: flags & KEPT,
-                offset: 0,
-            },
+            target_description(Target::Node(inode), flags),
         );
+    }
+
+    /// Opens an end of a pipe, with a description of its own.
+    pub(crate) fn open_end(&mut self, fd: usize, pipe: usize, writes: bool, flags: u64)
+        requires low { fd < 256 }
+        requires free { at self.old.descriptors fd ≡ None }
+        requires there { is_open_by writes (at self.old.pipes pipe) ≡ true }
+        requires fresh { (number : ℕ) → lone_of (at self.old.descriptions number) ≡ Some (targets.Pipe pipe writes) → ⊥ }
+        ensures { self.new ≡ with_target fd (targets.Pipe pipe writes) flags self.old }
+    {
+        let number = vacant(self.descriptions.as_slice());
+        self.descriptors[fd] = Some(Descriptor {
+            description: number,
+            close_on_exec: has(flags, CLOSE_ON_EXEC),
+        });
+        put(
+            &mut self.descriptions,
+            number,
+            target_description(Target::Pipe { pipe, writes }, flags),
+        );
+    }
+}
+
+/// The description of what is opened.
+fn target_description(target: Target, flags: u64) -> Description
+    ensures { result ≡ target_description target flags }
+{
+    Description {
+        target,
+        flags: flags & KEPT,
+        offset: 0,
     }
 }
 
@@ -320,6 +351,8 @@ fn new_devices(alloc: Global, count: usize) -> Result<Vec<Device>, AllocError>
     for index in 0..count {
         devices.push(Device {
             output: Bytes::new(alloc),
+            input: Input::new(alloc)?,
+            ended: false,
             live: true,
         })?;
     }

@@ -44,7 +44,7 @@ impl Files {
 
     /// The directory that a description is open for.
     fn directory(&self, target: Target) -> Result<Inode, Errno>
-        requires { IsThere self.now.tree self.now.devices target }
+        requires { IsThere self.now.tree self.now.devices self.now.pipes target }
         ensures inode { result ≡ directory_in self.now.tree target }
         ensures kind { IfOk result (λ inode. kind_in self.now.tree inode ≡ Some Dir) }
         ensures there { IfOk result (λ inode. Has self.now.tree inode) }
@@ -54,7 +54,7 @@ impl Files {
                 Kind::Dir => Ok(inode),
                 Kind::File => Err(Errno::ENOTDIR),
             },
-            Target::Device(_) => Err(Errno::ENOTDIR),
+            Target::Device(_) | Target::Pipe { .. } => Err(Errno::ENOTDIR),
         }
     }
 

@@ -1,3 +1,4 @@
+use crate::pipes::Input;
 use file_tree::Inode;
 use le_fields::Bytes;
 
@@ -8,6 +9,8 @@ pub enum Target {
     Node(Inode),
     /// A device, by its number.
     Device(usize),
+    /// An end of a pipe, by the pipe's number: the one that writes, or the one that reads.
+    Pipe { pipe: usize, writes: bool },
 }
 
 /// What is kept of an open file, shared by the descriptors that name it.
@@ -30,10 +33,13 @@ pub struct Descriptor {
     pub close_on_exec: bool,
 }
 
-/// A device: what was written to it, in order, and whether it lives, which it does until its last description goes.
+/// A device: what was written to it, in order; what came in and wasn't read yet, in order, and whether that was the end of what
+/// comes in; and whether it lives, which it does until its last description goes.
 #[derive(Drop)]
 pub struct Device {
     pub output: Bytes,
+    pub input: Input,
+    pub ended: bool,
     pub live: bool,
 }
 
@@ -44,6 +50,8 @@ pub struct Opened {
     pub node: Option<Inode>,
     /// The number of the device, where it is open for one.
     pub device: Option<usize>,
+    /// The number of the pipe, where it is open for an end of one. Both ends have it, and no other pipe with an open end.
+    pub pipe: Option<usize>,
     /// Access, and the flags that are kept of those with which it was opened.
     pub flags: u64,
     pub close_on_exec: bool,

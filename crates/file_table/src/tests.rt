@@ -5,7 +5,7 @@ use file_tree::Tree;
 use std::alloc::{AllocError, Global};
 
 /// The negated errno; waiting and want of memory are numbers that no errno has.
-fn refused(fault: FileFault) -> i64 {
+pub(crate) fn refused(fault: FileFault) -> i64 {
     match fault {
         FileFault::Errno(errno) => -errno.code(),
         FileFault::Block => -1000,
@@ -14,7 +14,7 @@ fn refused(fault: FileFault) -> i64 {
 }
 
 /// An answer as a number.
-fn number(answer: Result<usize, FileFault>) -> i64 {
+pub(crate) fn number(answer: Result<usize, FileFault>) -> i64 {
     match answer {
         Ok(count) if count < 1 << 32 => count as i64,
         Ok(_) => i64::MAX,
@@ -39,12 +39,12 @@ fn done(answer: Result<(), FileFault>) -> i64 {
 }
 
 /// A table over the root alone, with three devices.
-fn empty(alloc: Global) -> Result<Files, AllocError> {
+pub(crate) fn empty(alloc: Global) -> Result<Files, AllocError> {
     let tree = Tree::new(alloc)?;
     Files::new(alloc, tree, 3, None)
 }
 
-fn open(alloc: Global, files: &mut Files, path: &[u8], flags: u64) -> i64 {
+pub(crate) fn open(alloc: Global, files: &mut Files, path: &[u8], flags: u64) -> i64 {
     descriptor(files.open_at(alloc, -100, path, OpenFlags::from_bits_retain(flags)))
 }
 
@@ -55,7 +55,7 @@ fn dup_to(files: &mut Files, fd: u64, to: u64) -> i64 {
     }
 }
 
-fn dup(files: &mut Files, fd: u64, least: u64) -> i64 {
+pub(crate) fn dup(files: &mut Files, fd: u64, least: u64) -> i64 {
     match files.dup(fd, least, false) {
         Ok(fd) => descriptor(Ok(fd)),
         Err(errno) => refused(FileFault::Errno(errno)),
@@ -63,7 +63,7 @@ fn dup(files: &mut Files, fd: u64, least: u64) -> i64 {
 }
 
 /// Closes a descriptor, and tells the device that went with it, or 0.
-fn close(files: &mut Files, fd: u64) -> i64 {
+pub(crate) fn close(files: &mut Files, fd: u64) -> i64 {
     match files.close(fd) {
         Ok(closed) => match closed.device {
             Some(device) => number(Ok(device)),
@@ -73,7 +73,7 @@ fn close(files: &mut Files, fd: u64) -> i64 {
     }
 }
 
-fn write(files: &mut Files, fd: u64, bytes: &[u8]) -> i64 {
+pub(crate) fn write(files: &mut Files, fd: u64, bytes: &[u8]) -> i64 {
     number(files.write(fd, bytes))
 }
 
@@ -86,7 +86,7 @@ fn truncate(files: &mut Files, fd: u64, size: u64) -> i64 {
 }
 
 /// Whether a read of at most eight bytes answers a number, and the buffer begins with bytes and has zeros behind them.
-fn reads(files: &mut Files, fd: u64, size: usize, answer: i64, bytes: &[u8; 8]) -> bool {
+pub(crate) fn reads(files: &mut Files, fd: u64, size: usize, answer: i64, bytes: &[u8; 8]) -> bool {
     let mut buffer = [0; 8];
     if size > 8 {
         return false;
@@ -293,7 +293,7 @@ fn has_output(files: &Files, device: usize, bytes: &[u8]) -> bool {
     files.live(device) && files.output(device) == bytes
 }
 
-fn set_flags(files: &mut Files, fd: u64, flags: u64) -> i64 {
+pub(crate) fn set_flags(files: &mut Files, fd: u64, flags: u64) -> i64 {
     match files.set_flags(fd, flags) {
         Ok(()) => 0,
         Err(errno) => refused(FileFault::Errno(errno)),

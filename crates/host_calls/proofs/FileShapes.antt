@@ -1,5 +1,5 @@
 -- What calls on files owe: each by the shape of what it does.
-use Rattle.std.proofs.Common.{◌≡◌, ℕ, ℤ, pos, Bool, true, false, not, ◌==◌, ◌||◌, ◌*◌, min, cond, List, [], ◌∷◌, length, is_some, Option, Some, None, Result, Ok, Err, refl, sym, ap, ◌∙◌}
+use Rattle.std.proofs.Common.{◌≡◌, ℕ, ℤ, pos, Bool, true, false, not, ◌==◌, ◌||◌, ◌*◌, min, cond, List, [], ◌∷◌, length, is_some, Option, Some, None, Result, Ok, Err, refl, sym, ap, subst, ◌∙◌}
 use Rattle.std.specs.Int.{w64, cast_signed}
 use Rattle.file_tree.specs.declared.errno.Errno.{Errno}
 use Rattle.file_tree.specs.declared.errno.Errno.TheVariants.{EBADF, EINVAL, ENOTTY}
@@ -12,8 +12,9 @@ use Rattle.file_table.specs.Flags.{kept}
 use Rattle.file_table.specs.Moving.{read as reads, read_at as reads_at, seek as seeks, truncate as truncates, write as writes, write_at as writes_at}
 use Rattle.file_table.specs.Opening.{opened}
 use Rattle.file_table.specs.Paths.{with_dir, without}
+use Rattle.file_table.specs.Pipes.{piped}
 use Rattle.file_table.specs.State.{Files, outputs_of}
-use Rattle.file_table.proofs.OutputFacts.{Grows, Keeps, close_keeps, dir_keeps, done_files, dup_keeps, dup_to_keeps, flags_keep, list_keeps, marked_keeps, opened_keeps, read_keeps, seek_keeps, themselves, truncate_keeps, without_keeps, write_at_keeps, write_grows}
+use Rattle.file_table.proofs.OutputFacts.{Grows, Keeps, close_keeps, dir_keeps, done_files, dup_keeps, dup_to_keeps, flags_keep, list_keeps, marked_keeps, opened_keeps, piped_keeps, read_keeps, seek_keeps, themselves, truncate_keeps, without_keeps, write_at_keeps, write_grows}
 use Rattle.file_table.proofs.RoomFacts.{Few, list_few}
 use Rattle.guest_pages.specs.Apart.{IsApart, Stays}
 use Rattle.guest_pages.specs.Faults.{first_fault, writable}
@@ -22,8 +23,8 @@ use Rattle.guest_pages.proofs.ApartFacts.{written_stays}
 use Rattle.host_calls.specs.declared.pieces.Piece.{Piece}
 use Rattle.host_calls.specs.declared.stat.Status.{Status}
 use Rattle.host_calls.specs.Answers.{Answered, Refusal, answers, refuses, unless, unreserved}
-use Rattle.host_calls.specs.Descriptors.{close, dup, dup3, dup3_refusals, fcntl, ioctl, mark}
-use Rattle.host_calls.specs.Files.{answered_by, done_by, errno_of, left_by, told_of, with_files}
+use Rattle.host_calls.specs.Descriptors.{close, dup, dup3, dup3_refusals, end_bytes, fcntl, ioctl, mark, pipe2, pipe_refusals, told_ends}
+use Rattle.host_calls.specs.Files.{answered_by, moved_by, done_by, errno_of, left_by, told_of, with_files}
 use Rattle.host_calls.specs.Moving.{ftruncate, getdents64, is_readable, is_writable, listing_refusals, lseek, offset_refusals, pread64, pwrite64, read, read_into, reading_refusals, readv, taken, taken_at, told_entries, vector, vector_refusals, write, write_from, writev, writing_refusals}
 use Rattle.host_calls.specs.Owes.{Owes}
 use Rattle.host_calls.specs.Paths.{PathText, led_to, mkdir_by, mkdirat, no_link, open_by, open_refusals, openat, path_at, path_refusals, readlink_by, readlinkat, unlink_by, unlink_refusals, unlinkat}
@@ -39,8 +40,8 @@ answered_keeps : (thread : ℕ) (r : Result (Done ℕ) Errno) (shared : Shared) 
 answered_keeps thread (Err errno) shared keeps = answers_alone thread shared
 answered_keeps thread (Ok it) shared keeps = changes_files thread it.files shared keeps
 
-answered_grows : (thread : ℕ) (r : Result (Done ℕ) Errno) (shared : Shared) → Grows shared.files r → Owes thread shared (unreserved thread (answered_by r shared).shared)
-answered_grows thread (Err errno) shared grows = answers_alone thread shared
+answered_grows : (thread : ℕ) (r : Result (Done ℕ) FileFault) (shared : Shared) → Grows shared.files r → Owes thread shared (unreserved thread (moved_by r shared).shared)
+answered_grows thread (Err fault) shared grows = answers_alone thread shared
 answered_grows thread (Ok it) shared grows = writes_out thread it.files shared grows
 
 done_keeps : {A : Type 0} (thread : ℕ) (r : Result (Done A) Errno) (shared : Shared) → Keeps done_files shared.files r → Owes thread shared (unreserved thread (done_by r shared).shared)
@@ -83,6 +84,22 @@ no_terminal thread fd shared = either_owes (is_some (what fd shared.files)) thre
 pub ends_descriptor : (thread fd : ℕ) (shared : Shared) → Owes thread shared (unreserved thread (close fd shared).shared)
 unfolding close
 ends_descriptor thread fd shared = done_keeps thread (closes fd shared.files) shared (close_keeps fd shared.files)
+
+ends_length : (ends : ℕ × ℕ) → length (end_bytes ends) ≡ 8
+unfolding end_bytes
+ends_length (reader, writer) = refl
+
+told_ends_owe : (thread at : ℕ) (r : Result (Done (ℕ × ℕ)) Errno) (shared : Shared) → first_fault writable shared.memory at 8 ≡ None → Keeps done_files shared.files r → Owes thread shared (unreserved thread (told_ends thread at r shared).shared)
+told_ends_owe thread at (Err errno) shared good keeps = answers_alone thread shared
+told_ends_owe thread at (Ok it) shared good keeps =
+    stores_all thread shared (with_stored (put_in thread at (end_bytes it.answer) (stored_of shared)) (with_files it.files shared))
+    (λ apart. written_stays at (end_bytes it.answer) shared.memory apart (subst (λ (n : ℕ). first_fault writable shared.memory at n ≡ None) (sym (ends_length it.answer)) good))
+    (eased_store thread at (length (end_bytes it.answer)) shared.held shared.held (eased_same shared.held)) keeps refl refl
+
+pub makes_pipe : (thread at flags : ℕ) (shared : Shared) → Owes thread shared (unreserved thread (pipe2 thread at flags shared).shared)
+unfolding pipe2
+makes_pipe thread at flags shared = unless_owes (pipe_refusals at flags shared) thread shared _
+    (λ passes. told_ends_owe thread at (piped flags shared.files) shared (no_fault _ passes.1.0) (piped_keeps flags shared.files))
 
 -- ---- bytes that are read
 

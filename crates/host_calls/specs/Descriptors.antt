@@ -1,13 +1,19 @@
 -- Calls that make, change and close descriptors.
--- Source: dup(2), fcntl(2), ioctl(2), close(2). That other flags and commands are refused, and that no ioctl is there, is the
+-- Source: dup(2), fcntl(2), ioctl(2), close(2), pipe2(2). That other flags and commands are refused, and that no ioctl is there, is the
 -- project's own.
-use Rattle.std.specs.Prelude.{ℕ, ◌%◌, ◌==◌, Bool, false, true, not, ◌||◌, if◌then◌else◌, is_some, List, [], ◌∷◌}
-use Rattle.file_tree.specs.declared.errno.Errno.TheVariants.{EBADF, EINVAL, ENOTTY}
+use Rattle.std.specs.Prelude.{ℕ, ◌%◌, ◌==◌, Bool, false, true, not, ◌||◌, if◌then◌else◌, is_some, pos, List, [], ◌∷◌, ◌++◌, Result, Ok, Err}
+use Rattle.byteorder.specs.Endian.{little_bytes}
+use Rattle.file_tree.specs.declared.errno.Errno.{Errno}
+use Rattle.file_tree.specs.declared.errno.Errno.TheVariants.{EBADF, EFAULT, EINVAL, ENOTTY}
 use Rattle.file_table.specs.declared.state.Opened.{Opened}
 use Rattle.file_table.specs.Descriptors.{close as closes, dup as dups, dup_to as dups_to, marked, what, with_flags}
+use Rattle.file_table.specs.Due.{Done}
 use Rattle.file_table.specs.Flags.{kept}
+use Rattle.file_table.specs.Pipes.{are_foreign, piped}
+use Rattle.guest_pages.specs.Faults.{first_fault, writable}
 use Rattle.host_calls.specs.Answers.{Answered, Refusal, refusal, refuses, unless}
-use Rattle.host_calls.specs.Files.{answered_by, done_by, left_by, told_of}
+use Rattle.host_calls.specs.Files.{answered_by, done_by, left_by, told_of, with_files}
+use Rattle.host_calls.specs.Pieces.{put_in, stored_of, with_stored}
 use Rattle.host_calls.specs.Shared.{Shared}
 
 -- dup(2)
@@ -43,3 +49,21 @@ ioctl fd shared = if is_some (what fd shared.files) then refuses ENOTTY shared e
 -- close(2)
 unfoldable pub close : ℕ → Shared → Answered
 close fd shared = done_by (closes fd shared.files) shared
+
+-- ---- pipe2(2)
+
+-- two words, that of the reading end first
+unfoldable pub end_bytes : ℕ × ℕ → List ℕ
+end_bytes (reader, writer) = little_bytes 4 reader ++ little_bytes 4 writer
+
+abbrev pub pipe_refusals : ℕ → ℕ → Shared → List Refusal
+pipe_refusals at flags shared =
+    refusal (are_foreign flags) EINVAL ∷ refusal (is_some (first_fault writable shared.memory at 8)) EFAULT ∷ []
+
+abbrev pub told_ends : ℕ → ℕ → Result (Done (ℕ × ℕ)) Errno → Shared → Answered
+told_ends thread at (Err errno) shared = refuses errno shared
+told_ends thread at (Ok done) shared =
+    record { shared = with_stored (put_in thread at (end_bytes done.answer) (stored_of shared)) (with_files done.files shared); answer = pos 0 }
+
+unfoldable pub pipe2 : ℕ → ℕ → ℕ → Shared → Answered
+pipe2 thread at flags shared = unless (pipe_refusals at flags shared) shared (told_ends thread at (piped flags shared.files) shared)

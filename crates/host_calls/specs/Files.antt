@@ -38,3 +38,8 @@ abbrev pub errno_of : FileFault → Errno
 errno_of (faults.Errno errno) = errno
 errno_of faults.Block = ENOSYS
 errno_of faults.Memory = ENOMEM
+
+-- what the table answers to a call that may wait
+abbrev pub moved_by : Result (Done ℕ) FileFault → Shared → Answered
+moved_by (Err fault) shared = refuses (errno_of fault) shared
+moved_by (Ok done) shared = answers (pos done.answer) (with_files done.files shared)

@@ -7,7 +7,7 @@ use Rattle.call_table.specs.declared.call.CallNo.{CallNo}
 use Rattle.call_table.specs.declared.call.CallNo.TheVariants as call
 use Rattle.file_tree.specs.declared.errno.Errno.TheVariants.{ENOSYS}
 use Rattle.host_calls.specs.Answers.{Answered, argument, ending, refuses}
-use Rattle.host_calls.specs.Descriptors.{close, dup, dup3, fcntl, ioctl}
+use Rattle.host_calls.specs.Descriptors.{close, dup, dup3, fcntl, ioctl, pipe2}
 use Rattle.host_calls.specs.Identity.{getpid, getrandom, gettid, prlimit64, sched_yield, uname, user}
 use Rattle.host_calls.specs.Maps.{brk, mmap, mprotect, munmap}
 use Rattle.host_calls.specs.Moving.{ftruncate, getdents64, lseek, pread64, pwrite64, read, readv, write, writev}
@@ -27,7 +27,7 @@ made call.Unlinkat thread args shared = unlinkat (argument 0 args) (argument 1 a
 made call.Ftruncate thread args shared = ftruncate (argument 0 args) (argument 1 args) shared
 made call.Openat thread args shared = openat (argument 0 args) (argument 1 args) (argument 2 args) shared
 made call.Close thread args shared = close (argument 0 args) shared
-made call.Pipe2 thread args shared = refuses ENOSYS shared
+made call.Pipe2 thread args shared = pipe2 thread (argument 0 args) (argument 1 args) shared
 made call.Getdents64 thread args shared = getdents64 thread (argument 0 args) (argument 1 args) (argument 2 args) shared
 made call.Lseek thread args shared = lseek (argument 0 args) (argument 1 args) (argument 2 args) shared
 made call.Read thread args shared = read thread (argument 0 args) (argument 1 args) (argument 2 args) shared

@@ -17,7 +17,7 @@ use Rattle.guest_pages.specs.Faults.{first_fault, readable, writable}
 use Rattle.guest_pages.specs.Operations.{bytes_at}
 use Rattle.host_calls.specs.declared.pieces.Piece.{Piece}
 use Rattle.host_calls.specs.Answers.{Answered, Refusal, refusal, refuses, unless}
-use Rattle.host_calls.specs.Files.{answered_by, errno_of, left_by, with_files}
+use Rattle.host_calls.specs.Files.{answered_by, errno_of, left_by, moved_by, with_files}
 use Rattle.host_calls.specs.Pieces.{any_bad, cut, gathered, most_bytes, one_piece, pieces_in, put_in, scattered, stored_of, total, with_stored}
 use Rattle.host_calls.specs.Shared.{Shared}
 
@@ -101,7 +101,7 @@ writing_refusals fd pieces shared =
 -- a write of what stands in pieces, which are cut already
 unfoldable pub write_from : ℕ → List Piece → Shared → Answered
 write_from fd pieces shared =
-    unless (writing_refusals fd pieces shared) shared (answered_by (writes fd (gathered shared.memory pieces) shared.files) shared)
+    unless (writing_refusals fd pieces shared) shared (moved_by (writes fd (gathered shared.memory pieces) shared.files) shared)
 
 -- write(2)
 unfoldable pub write : ℕ → ℕ → ℕ → Shared → Answered

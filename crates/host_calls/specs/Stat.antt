@@ -1,6 +1,6 @@
 -- What is told of a file.
--- Source: stat(2), and `struct stat` of Linux's generic ABI. The modes, that a device has inode 0, and that a directory has size
--- 0, are the project's own.
+-- Source: stat(2), and `struct stat` of Linux's generic ABI. The modes, that a device and a pipe have inode 0, and that a
+-- directory has size 0, are the project's own.
 use Rattle.std.specs.Prelude.{ℕ, ◌+◌, ◌/◌, ◌==◌, Bool, true, false, not, ◌&&◌, if◌then◌else◌, pos, ℤ, List, [], ◌∷◌, ◌++◌, length, replicate, is_some, bit_and, Result, Ok, Err, Option, Some, None}
 use Rattle.std.specs.Int.{w64, cast_signed}
 use Rattle.byteorder.specs.Endian.{little_bytes}
@@ -40,14 +40,20 @@ status_in inode tree = record { inode = inode; mode = mode_of (kind_in tree inod
 abbrev pub device_status : Status
 device_status = record { inode = 0; mode = 0x2190; size = 0 }
 
-abbrev pub status_by : Option ℕ → Tree → Status
-status_by None tree = device_status
-status_by (Some inode) tree = status_in inode tree
+-- a pipe that its user reads and writes
+abbrev pub pipe_status : Status
+pipe_status = record { inode = 0; mode = 0x1180; size = 0 }
+
+-- of a file or a directory, else of a pipe, else of a device
+abbrev pub status_by : Option ℕ → Option ℕ → Tree → Status
+status_by (Some inode) pipe tree = status_in inode tree
+status_by None (Some pipe) tree = pipe_status
+status_by None None tree = device_status
 
 -- of what a descriptor is open for
 abbrev pub opened_status : Option Opened → Files → Result Status Errno
 opened_status None files = Err EBADF
-opened_status (Some opened) files = Ok (status_by opened.node files.tree)
+opened_status (Some opened) files = Ok (status_by opened.node opened.pipe files.tree)
 
 abbrev pub told : ℕ → ℕ → Result Status Errno → Shared → Answered
 told thread at (Err errno) shared = refuses errno shared

@@ -54,7 +54,7 @@ impl Host {
             CallNo::Close => Ok(self.close(a0)),
             CallNo::Getdents64 => self.getdents64(thread, a0, a1, a2),
             CallNo::Lseek => Ok(self.lseek(a0, a1, a2)),
-            CallNo::Read => Ok(self.read(thread, a0, a1, a2)),
+            CallNo::Read => self.read(thread, a0, a1, a2),
             CallNo::Write => self.write(a0, a1, a2),
             CallNo::Readv => self.readv(thread, a0, a1, a2),
             CallNo::Writev => self.writev(a0, a1, a2),
@@ -78,8 +78,8 @@ impl Host {
             CallNo::Mprotect => self.mprotect(a0, a1, a2),
             CallNo::Prlimit64 => self.prlimit64(thread, a0, a1, a2, a3),
             CallNo::Getrandom => self.getrandom(thread, a0, a1),
-            CallNo::Pipe2
-            | CallNo::Ppoll
+            CallNo::Pipe2 => self.pipe2(thread, a0, a1),
+            CallNo::Ppoll
             | CallNo::Exit
             | CallNo::ExitGroup
             | CallNo::SetTidAddress

@@ -1,17 +1,29 @@
 //! Calls that make, change and close descriptors. Each costs by the number of descriptors, at most 256.
 
-ghost use Rattle.std.specs.Prelude.{◌≡◌};
-ghost use Rattle.host_calls.specs.Descriptors.{close, dup, dup3, fcntl, ioctl};
+ghost use Rattle.std.specs.Prelude.{◌≡◌, IfOk, OnErr};
+ghost use Rattle.host_calls.specs.Descriptors.{close, dup, dup3, end_bytes, fcntl, ioctl, pipe2};
 ghost use Rattle.host_calls.specs.Host.{gives, shared_of};
 
 use crate::host::Host;
+use crate::pieces::{Piece, put_piece};
+use bitflags::Flags;
+use call_table::OpenFlags;
+use file_table::FileFault;
 use file_tree::Errno;
+use guest_pages::WRITABLE;
+use std::alloc::AllocError;
 
 /// The flag of dup3 by which a descriptor is closed by execve.
 const CLOSE_ON_EXEC: u64 = 0x80000;
 
 /// The flags that a description keeps.
 const KEPT: u64 = 0x38C03;
+
+/// The flags that pipe2 takes.
+const PIPE_FLAGS: u64 = 0x80800;
+
+/// The bytes that pipe2 tells the descriptors in.
+const PIPE_SIZE: u64 = 8;
 
 impl Host {
     /// The least free descriptor names what another one names.
@@ -108,4 +120,47 @@ impl Host {
             Err(errno) => -errno.code(),
         }
     }
+
+    /// Makes a pipe, and tells its two descriptors, that for reading first. It takes memory for what the pipe may hold.
+    ///
+    /// References: pipe2(2).
+    #[tactic(auto, unfolding(crate::specs::Descriptors::pipe2))]
+    pub(crate) fn pipe2(&mut self, thread: u32, at: u64, flags: u64) -> Result<i64, AllocError>
+        ensures answer { IfOk result (λ answer. gives answer self.new ≡ pipe2 thread at flags (shared_of self.old)) }
+        ensures pending { self.new.pending ≡ self.old.pending }
+        ensures err { OnErr result (self.new ≡ self.old) }
+    {
+        if flags | PIPE_FLAGS != PIPE_FLAGS {
+            return Ok(-Errno::EINVAL.code());
+        }
+        if self.pages.allows(at, PIPE_SIZE, WRITABLE).is_err() {
+            return Ok(-Errno::EFAULT.code());
+        }
+        let alloc = self.files.alloc();
+        match self.files.pipe(alloc, OpenFlags::from_bits_retain(flags)) {
+            Ok((reader, writer)) => {
+                let piece = Piece {
+                    at,
+                    size: PIPE_SIZE,
+                };
+                let bytes = end_bytes(reader, writer);
+                put_piece(&mut self.pages, &mut self.held, thread, piece, &bytes);
+                Ok(0)
+            }
+            Err(FileFault::Errno(errno)) => Ok(-errno.code()),
+            Err(FileFault::Block) => unreachable!(),
+            Err(FileFault::Memory) => Err(AllocError),
+        }
+    }
+}
+
+/// Two words, as they stand in memory.
+#[tactic(auto, unfolding(crate::specs::Descriptors::end_bytes))]
+fn end_bytes(reader: u32, writer: u32) -> [u8; 8]
+    ensures { result ≡ end_bytes (reader, writer) }
+{
+    let mut bytes = [0; 8];
+    bytes[..4].copy_from_slice(&reader.to_le_bytes());
+    bytes[4..].copy_from_slice(&writer.to_le_bytes());
+    bytes
 }

@@ -242,6 +242,46 @@ fn pieces_are_moved_in_one_go(rt: HostRuntime) -> Result<(), Fail> {
 }
 
 #[test]
+fn a_pipe_is_read_and_written(rt: HostRuntime) -> Result<(), Fail> {
+    let mut host = host(rt.alloc())?;
+    let table = [
+        (CallNo::Pipe2, [BAD, 1, 0, 0], -22),
+        (CallNo::Pipe2, [BAD, 0, 0, 0], -14),
+        (CallNo::Pipe2, [BAD - 4, 0, 0, 0], -14),
+        // the reading end is 2, the writing one 3
+        (CallNo::Pipe2, [ROOM, 0, 0, 0], 0),
+        (CallNo::Read, [2, ROOM + 8, 4, 0], -38),
+        (CallNo::Writev, [3, PIECES, 2, 0], 3),
+        (CallNo::Readv, [2, PIECES, 2, 0], 3),
+        (CallNo::Write, [3, 0x1_0000, 1, 0], 1),
+        (CallNo::Read, [2, ROOM + 8, 4, 0], 1),
+        (CallNo::Read, [3, ROOM + 8, 4, 0], -9),
+        (CallNo::Write, [2, 0x1_0000, 1, 0], -9),
+        (CallNo::Lseek, [2, 0, 0, 0], -29),
+        (CallNo::Pread64, [2, ROOM, 1, 0], -29),
+        (CallNo::Pwrite64, [3, 0x1_0000, 1, 0], -29),
+        (CallNo::Ftruncate, [3, 0, 0, 0], -22),
+        (CallNo::Fcntl, [3, 3, 0, 0], 1),
+        (CallNo::Fstat, [2, STATUS, 0, 0], 0),
+        // without a writer it ends
+        (CallNo::Close, [3, 0, 0, 0], 0),
+        (CallNo::Read, [2, ROOM + 8, 4, 0], 0),
+        // one that never waits, and then has no reader
+        (CallNo::Pipe2, [ROOM + 16, 0x800, 0, 0], 0),
+        (CallNo::Read, [3, ROOM + 8, 4, 0], -11),
+        (CallNo::Close, [3, 0, 0, 0], 0),
+        (CallNo::Write, [4, 0x1_0000, 1, 0], -32),
+    ];
+    for (no, args, wanted) in table {
+        assert_eq!(rt; answer(&mut host, no, args)?, wanted, "{no:?} {args:?}");
+    }
+    assert_eq!(rt; host.pages.load(ROOM, Width::Eight), Ok(0x3_0000_0002));
+    assert_eq!(rt; host.pages.load(ROOM + 8, Width::Two), Ok(0x68));
+    assert_eq!(rt; host.pages.load(STATUS + 16, Width::Four), Ok(0x1180));
+    Ok(())
+}
+
+#[test]
 fn a_private_map_has_a_copy_of_a_files_bytes(rt: HostRuntime) -> Result<(), Fail> {
     let mut host = host(rt.alloc())?;
     let opens = [

@@ -1,8 +1,8 @@
 //! Calls that move bytes of files, and offsets.
 
-ghost use Rattle.std.specs.Prelude.{◌≡◌, ◌≤◌, false, min, pos, None, length, IfOk, IfErr, OnErr};
+ghost use Rattle.std.specs.Prelude.{◌≡◌, ◌≤◌, false, min, max, pos, Some, None, length, IfOk, IfErr, OnErr};
 ghost use Rattle.file_table.specs.Entries.{list};
-ghost use Rattle.file_table.specs.Moving.{read as read_table};
+ghost use Rattle.file_table.specs.Moving.{read as read_table, standing};
 ghost use Rattle.host_calls.specs.Answers.{refuses};
 ghost use Rattle.host_calls.specs.Files.{errno_of as errno_by};
 ghost use Rattle.host_calls.specs.Host.{gives, shared_of};
@@ -44,6 +44,14 @@ fn one_piece(at: u64, wish: u64) -> Piece
     }
 }
 
+/// How many bytes a read needs room for, where so many stand ready: for one at least, if it asks for any.
+fn needed(size: u64, count: u64) -> u64
+    ensures is { result ≡ min size (max count 1) }
+    ensures few { result ≤ size }
+{
+    size.min(count.max(1))
+}
+
 impl Host {
     /// Whether a descriptor is open for reading.
     fn is_readable(&self, fd: u64) -> bool
@@ -65,19 +73,27 @@ impl Host {
         }
     }
 
-    /// Reads bytes of a file into memory, in time that their number bounds. They are copied once, and no memory is taken.
+    /// Reads bytes into memory, in time that their number bounds. Those of a file are copied once, and no memory is taken for
+    /// them; for those of a pipe or a device it is.
     ///
     /// References: read(2).
     #[tactic(auto, unfolding(crate::specs::Moving::read))]
-    pub(crate) fn read(&mut self, thread: u32, fd: u64, at: u64, wish: u64) -> i64
-        ensures answer { gives result self.new ≡ read thread fd at wish (shared_of self.old) }
+    pub(crate) fn read(
+        &mut self,
+        thread: u32,
+        fd: u64,
+        at: u64,
+        wish: u64,
+    ) -> Result<i64, AllocError>
+        ensures answer { IfOk result (λ answer. gives answer self.new ≡ read thread fd at wish (shared_of self.old)) }
         ensures pending { self.new.pending ≡ self.old.pending }
+        ensures err { OnErr result (self.new ≡ self.old) }
     {
         let piece = one_piece(at, wish);
         self.read_into(thread, fd, &[piece], piece.size)
     }
 
-    /// Reads bytes of a file into pieces of memory. It takes memory for what stands of the pieces alone.
+    /// Reads bytes into pieces of memory. Beside what `read` takes memory for it takes it for what stands of the pieces.
     ///
     /// References: readv(2).
     #[tactic(auto, unfolding(crate::specs::Moving::readv))]
@@ -99,35 +115,97 @@ impl Host {
             return Ok(-Errno::EBADF.code());
         }
         match vector_of(self.files.alloc(), &self.pages, at, count)? {
-            Some(vector) => Ok(self.read_into(thread, fd, vector.pieces.as_slice(), vector.total)),
+            Some(vector) => self.read_into(thread, fd, vector.pieces.as_slice(), vector.total),
             None => Ok(-Errno::EFAULT.code()),
         }
     }
 
     #[tactic(auto, unfolding(crate::specs::Moving::read_into))]
-    fn read_into(&mut self, thread: u32, fd: u64, pieces: &[Piece], size: u64) -> i64
+    fn read_into(
+        &mut self,
+        thread: u32,
+        fd: u64,
+        pieces: &[Piece],
+        size: u64,
+    ) -> Result<i64, AllocError>
         requires total { size ≡ total pieces.now }
         requires few { size ≤ most_bytes }
-        ensures answer { gives result self.new ≡ read_into thread fd pieces.now (shared_of self.old) }
+        ensures answer { IfOk result (λ answer. gives answer self.new ≡ read_into thread fd pieces.now (shared_of self.old)) }
         ensures pending { self.new.pending ≡ self.old.pending }
+        ensures err { OnErr result (self.new ≡ self.old) }
     {
         if !self.is_readable(fd) {
-            return -Errno::EBADF.code();
+            return Ok(-Errno::EBADF.code());
         }
         if is_any_bad(&self.pages, pieces, WRITABLE) {
-            return -Errno::EFAULT.code();
+            return Ok(-Errno::EFAULT.code());
         }
-        match self.move_in(thread, fd, pieces, size) {
-            Ok(count) => count as i64,
-            Err(errno) => -errno.code(),
+        match self.files.standing(fd) {
+            Some(count) => self.take_in(thread, fd, pieces, size, count),
+            None => match self.move_in(thread, fd, pieces, size) {
+                Ok(count) => Ok(count as i64),
+                Err(errno) => Ok(-errno.code()),
+            },
         }
     }
 
-    /// Reads into pieces that can be written, and tells how many bytes.
+    /// Reads bytes of a device or a pipe, at which so many stand ready, into pieces that can be written. It takes memory for no
+    /// more than these.
+    fn take_in(
+        &mut self,
+        thread: u32,
+        fd: u64,
+        pieces: &[Piece],
+        size: u64,
+        count: u64,
+    ) -> Result<i64, AllocError>
+        requires few { size ≤ most_bytes }
+        requires good { any_bad writable self.old.pages pieces.now ≡ false }
+        requires there { standing fd self.old.files ≡ Some count }
+        ensures answer { IfOk result (λ answer. gives answer self.new ≡ taken thread pieces.now (read_table fd size self.old.files) (shared_of self.old)) }
+        ensures pending { self.new.pending ≡ self.old.pending }
+        ensures err { OnErr result (self.new ≡ self.old) }
+    {
+        self.take_so_many(thread, fd, pieces, needed(size, count))
+    }
+
+    /// Reads so many bytes at most of a device or a pipe. It takes memory for as many.
+    fn take_so_many(
+        &mut self,
+        thread: u32,
+        fd: u64,
+        pieces: &[Piece],
+        size: u64,
+    ) -> Result<i64, AllocError>
+        requires few { size ≤ most_bytes }
+        requires good { any_bad writable self.old.pages pieces.now ≡ false }
+        ensures answer { IfOk result (λ answer. gives answer self.new ≡ taken thread pieces.now (read_table fd size self.old.files) (shared_of self.old)) }
+        ensures pending { self.new.pending ≡ self.old.pending }
+        ensures err { OnErr result (self.new ≡ self.old) }
+    {
+        let mut bytes = Vec::new(self.files.alloc());
+        bytes.resize(size as usize, 0)?;
+        match self.files.read(fd, bytes.as_mut_slice()) {
+            Ok(count) => {
+                scatter(
+                    &mut self.pages,
+                    &mut self.held,
+                    thread,
+                    pieces,
+                    &bytes[..count],
+                );
+                Ok(count as i64)
+            }
+            Err(fault) => Ok(-errno_of(fault).code()),
+        }
+    }
+
+    /// Reads bytes of a file into pieces that can be written, and tells how many.
     #[tactic(auto, using(file_table::proofs::PeekFacts::read_is))]
     fn move_in(&mut self, thread: u32, fd: u64, pieces: &[Piece], size: u64) -> Result<u64, Errno>
         requires few { size ≤ most_bytes }
         requires good { any_bad writable self.old.pages pieces.now ≡ false }
+        requires none { standing fd self.old.files ≡ None }
         ensures ok { IfOk result (λ count. gives (pos count) self.new ≡ taken thread pieces.now (read_table fd size self.old.files) (shared_of self.old)) }
         ensures few { IfOk result (λ count. count ≤ most_bytes) }
         ensures err { IfErr result (λ errno. refuses errno (shared_of self.old) ≡ taken thread pieces.now (read_table fd size self.old.files) (shared_of self.old)) }
@@ -139,7 +217,7 @@ impl Host {
                 scatter(&mut self.pages, &mut self.held, thread, pieces, bytes);
                 bytes.len() as u64
             }
-            Err(fault) => return Err(errno_of(fault)),
+            Err(errno) => return Err(errno),
         };
         self.files.advance(fd, count);
         Ok(count)
@@ -172,7 +250,7 @@ impl Host {
         }
     }
 
-    /// Writes bytes of memory to a file or a device, in time that their number bounds, over many calls.
+    /// Writes bytes of memory to a file, a device or a pipe, in time that their number bounds, over many calls.
     ///
     /// References: write(2).
     #[tactic(auto, unfolding(crate::specs::Moving::write))]
@@ -223,7 +301,7 @@ impl Host {
         match self.files.write(fd, bytes.as_slice()) {
             Ok(count) => Ok(count as i64),
             Err(FileFault::Errno(errno)) => Ok(-errno.code()),
-            Err(FileFault::Block) => unreachable!(),
+            Err(FileFault::Block) => Ok(-errno_of(FileFault::Block).code()),
             Err(FileFault::Memory) => Err(AllocError),
         }
     }

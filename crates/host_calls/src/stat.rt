@@ -84,7 +84,11 @@ impl Host {
                 Some(inode) => Ok(self.node_status(inode)),
                 None => Ok(Status {
                     inode: 0,
-                    mode: 0x2190,
+                    mode: if opened.pipe.is_some() {
+                        0x1180
+                    } else {
+                        0x2190
+                    },
                     size: 0,
                 }),
             },

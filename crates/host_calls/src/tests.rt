@@ -91,7 +91,7 @@ fn calls_answer_as_their_pages_say(rt: HostRuntime) -> Result<(), Fail> {
         (CallNo::Getrandom, [0x1_0600, 1000, 0, 0, 0, 0], 256),
         (CallNo::Getrandom, [0x1_0FFF, 2, 0, 0, 0, 0], -14),
         // calls that aren't there yet
-        (CallNo::Pipe2, [0; 6], -38),
+        (CallNo::Futex, [0; 6], -38),
         (CallNo::Clone, [0; 6], -38),
     ];
     for (no, args, wanted) in table {

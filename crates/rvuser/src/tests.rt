@@ -405,7 +405,7 @@ fn answers_of_calls(rt: HostRuntime) -> Result<(), Fail> {
         (1000, 1, 0x10, 2, 256 - 38),
         // the id of the process, 1000, of which the status is the low byte; and a call that is not there yet
         (172, 0, 0x10, 0, 1000 % 256),
-        (59, 0, 0x10, 0, 256 - 38),
+        (98, 0, 0x10, 0, 256 - 38),
     ];
     for (number, descriptor, address, length, status) in table {
         let words = calls(number, descriptor, address, length);

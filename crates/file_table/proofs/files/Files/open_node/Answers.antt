@@ -20,7 +20,7 @@ put-requires-clause-low c =
 pub invariant_of-self : goal.invariant_of-self
 invariant_of-self c =
     let e : c.vacant-number.result ≡ vacant c.self.inside.descriptions.items = c.vacant-number.ensures ∙ ap vacant c.as_slice.ensures.value in (
-      rw (c.put.ensures.items, e) (node_opened _ c.hold.new.self c.args.fd c.args.inode c.args.flags c.has.result c.self.invariant.0 c.requires.low (ap (λ (f : Files). at f.descriptors c.args.fd) c.self.view_is ∙ c.requires.free)
+      rw (c.put.ensures.items, c.target_description.ensures, e) (node_opened _ c.hold.new.self c.args.fd c.args.inode c.args.flags c.has.result c.self.invariant.0 c.requires.low (ap (λ (f : Files). at f.descriptors c.args.fd) c.self.view_is ∙ c.requires.free)
           (subst (λ (f : Files). Has f.tree c.args.inode) (sym c.self.view_is) c.requires.there) c.hold.ensures.held),
       c.put.ensures.room,
     )
