@@ -10,3 +10,4 @@ pub mod PlaceFacts
 pub mod RoomFacts
 pub mod SoundFacts
 pub mod StartFacts
+pub mod WaitFacts

@@ -1,5 +1,5 @@
 -- What calls on files do to what was written to devices: a write to a device goes on, and nothing else changes it.
-use Rattle.std.proofs.Common.{◌≡◌, ℕ, zero, suc, ◌+◌, ◌-◌, Bool, true, false, not, nat_lt, ◌==◌, ◌&&◌, if◌then◌else◌, List, [], ◌∷◌, ◌++◌, length, get_or, map, set, replicate, Option, Some, None, option_map, Result, Ok, Err, ℤ, pos, ◌+ℤ◌, refl, sym, ap, ◌∙◌, append-nil}
+use Rattle.std.proofs.Common.{◌≡◌, ℕ, zero, suc, ◌+◌, Bool, true, false, not, nat_lt, ◌==◌, ◌&&◌, if◌then◌else◌, List, [], ◌∷◌, ◌++◌, length, get_or, map, set, replicate, Option, Some, None, option_map, Result, Ok, Err, ℤ, pos, ◌+ℤ◌, refl, sym, ap, ◌∙◌, append-nil}
 use Rattle.file_tree.specs.declared.errno.Errno.{Errno}
 use Rattle.file_tree.specs.declared.errno.Errno.TheVariants.{EBADF, ENOENT}
 use Rattle.file_tree.specs.declared.kind.Kind.{Kind}
@@ -24,7 +24,7 @@ use Rattle.file_table.specs.Moving.{with_devices as table_devices}
 use Rattle.file_table.specs.Opening.{bare, device_description, new_device, open_base, open_found, open_free, open_kind, open_made, open_there, opened, standing, started, with_devices}
 use Rattle.file_table.specs.Paths.{base, put_tree, with_dir, with_tree, without}
 use Rattle.file_table.specs.Pipes.{are_foreign, next_free, piped, piped_at}
-use Rattle.file_table.specs.State.{Files, OnlyDie, Pipe, at, chosen, lives_by, open_as, outputs_of}
+use Rattle.file_table.specs.State.{Files, OnlyDie, Pipe, at, chosen, open_as, outputs_of}
 
 -- ---- of one device of a list
 

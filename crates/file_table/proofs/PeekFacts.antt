@@ -3,7 +3,7 @@ use Rattle.std.proofs.Common.{◌≡◌, ℕ, zero, suc, ◌+◌, ◌==◌, nat_
 use Rattle.std.proofs.lemmas.Bool.{leb-true, leb-false, ne_eqb}
 use Rattle.std.proofs.lemmas.List.{take_all}
 use Rattle.file_tree.specs.declared.errno.Errno.{Errno}
-use Rattle.file_tree.specs.declared.errno.Errno.TheVariants.{EBADF, ESPIPE}
+use Rattle.file_tree.specs.declared.errno.Errno.TheVariants.{EBADF}
 use Rattle.file_table.specs.declared.fault.FileFault.{FileFault}
 use Rattle.file_table.specs.declared.fault.FileFault.TheVariants as faults
 use Rattle.file_table.specs.declared.state.Description.{Description}

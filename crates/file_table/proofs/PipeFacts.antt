@@ -1,10 +1,8 @@
 -- Pipes: their flags, and the numbers that none has.
-use Rattle.std.proofs.Common.{◌≡◌, ℕ, ◌^◌, ◌<◌, false, true, List, Option, Some, None, inl, inr, sym, ap, ◌∙◌, arith}
+use Rattle.std.proofs.Common.{◌≡◌, ℕ, ◌^◌, ◌<◌, false, true, Some, inl, inr, sym, ap, ◌∙◌, arith}
 use Rattle.std.specs.Prelude.{bit_or}
 use Rattle.std.proofs.lemmas.Bool.{cases_eq}
 use Rattle.std.proofs.lemmas.Nat.{le_or_l}
-use Rattle.file_table.specs.declared.state.Description.{Description}
-use Rattle.file_table.specs.declared.state.Target.{Target}
 use Rattle.file_table.specs.declared.state.Target.TheVariants as targets
 use Rattle.file_table.specs.Descriptors.{lone_of}
 use Rattle.file_table.specs.Opening.{target_description, vacant, with_target}

@@ -8,3 +8,4 @@ pub mod Paths
 pub mod Pipes
 pub mod Sound
 pub mod State
+pub mod Waits

@@ -1,16 +1,15 @@
 -- Pipes that are made, what comes in at devices, and what is ready to be read or written.
 -- Source: pipe(2), pipe(7), poll(2). That a device that has ended can be read is poll(2)'s end of file; that it can always be
 -- written, and where its bytes come from, is the project's own.
-use Rattle.std.specs.Prelude.{ℕ, ◌+◌, ◌-◌, ◌==◌, nat_lt, Bool, true, false, not, ◌||◌, if◌then◌else◌, List, [], ◌++◌, length, get_or, set, bit_and, bit_or, Option, Some, None, Result, Ok, Err}
+use Rattle.std.specs.Prelude.{ℕ, ◌+◌, ◌==◌, nat_lt, Bool, true, false, not, ◌||◌, if◌then◌else◌, List, [], ◌++◌, length, get_or, set, bit_or, Option, Some, None, Result, Ok, Err}
 use Rattle.file_tree.specs.declared.errno.Errno.{Errno}
 use Rattle.file_tree.specs.declared.errno.Errno.TheVariants.{EINVAL, EMFILE}
-use Rattle.file_table.specs.declared.state.Description.{Description}
 use Rattle.file_table.specs.declared.state.Device.{Device}
 use Rattle.file_table.specs.declared.state.Target.{Target}
 use Rattle.file_table.specs.declared.state.Target.TheVariants as targets
 use Rattle.file_table.specs.Descriptors.{free_place, no_device}
 use Rattle.file_table.specs.Due.{Done, done}
-use Rattle.file_table.specs.Moving.{pipe_size, room_in, with_devices}
+use Rattle.file_table.specs.Moving.{room_in, with_devices}
 use Rattle.file_table.specs.Opening.{vacant, with_target}
 use Rattle.file_table.specs.State.{Files, Pipe, at, put, with_open}
 

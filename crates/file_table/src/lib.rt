@@ -39,6 +39,7 @@ mod paths;
 mod pipes;
 mod piping;
 mod state;
+mod waiting;
 
 pub use descriptors::Closed;
 pub use fault::FileFault;

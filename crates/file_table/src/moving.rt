@@ -1,6 +1,6 @@
 //! Bytes that are read and written, and offsets.
 
-ghost use Rattle.std.specs.Prelude.{◌≡◌, ◌≢◌, ℕ, Bool, List, option_map, ◌+◌, ◌^◌, ◌<◌, ◌≤◌, ◌==◌, ◌||◌, not, max, true, false, ◌+ℤ◌, pos, length, take, get_or, slice_get, Some, None, Ok, Err, IfOk, IfErr, IfSome, OnOk};
+ghost use Rattle.std.specs.Prelude.{◌≡◌, ◌≢◌, ℕ, Bool, List, option_map, ◌+◌, ◌^◌, ◌<◌, ◌≤◌, ◌==◌, ◌||◌, not, max, min, true, false, ◌+ℤ◌, pos, length, take, get_or, slice_get, Some, None, Ok, Err, IfOk, IfErr, IfSome, OnOk};
 ghost use Rattle.file_tree.specs.declared.kind.Kind.TheVariants.{File};
 ghost use Rattle.file_tree.specs.Files.{truncated};
 ghost use Rattle.file_tree.specs.Nodes.{Has, kind_in};
@@ -8,8 +8,8 @@ ghost use Rattle.file_table.specs.declared.state.Target.TheVariants as targets;
 ghost use Rattle.file_table.specs.declared.fault.FileFault.TheVariants as faults;
 ghost use Rattle.file_table.specs.Descriptors.{no_device, pipe_of};
 ghost use Rattle.file_table.specs.Due.{Answers, AnswersAlways, Leaves, LeavesTree, Moves, Reads, ReadsAlways, RestStays, done};
-ghost use Rattle.file_table.specs.Flags.{can_read, can_write};
-ghost use Rattle.file_table.specs.Moving.{advanced, counted_from, cut, file_read, file_written, given, given_by, lawful, more_bytes, past, peek, place_of, read, read_at, read_device, read_pipe, read_target, read_target_at, seek, standing, taken_by, takes_by, truncate, waits, without_bytes, without_input, with_devices, with_output, write, write_at, write_node, write_pipe, write_target_at};
+ghost use Rattle.file_table.specs.Flags.{can_read, can_write, never_waits};
+ghost use Rattle.file_table.specs.Moving.{advanced, counted_from, cut, file_read, file_written, given, given_by, lawful, more_bytes, past, peek, place_of, read, read_at, read_device, read_pipe, read_target, read_target_at, room_in, seek, standing, taken_by, takes_by, truncate, waits, without_bytes, without_input, with_devices, with_output, write, write_at, write_node, write_pipe, write_target_at};
 ghost use Rattle.file_table.specs.Sound.{IsThere};
 ghost use Rattle.file_table.specs.State.{at, bytes_by, is_open_by, lives_by, open_as};
 
@@ -550,21 +550,33 @@ fn write_to(pipe: &mut Pipe, flags: u64, bytes: &[u8]) -> Result<usize, FileFaul
     ensures few { IfOk result (λ count. count ≤ length bytes.now) }
     ensures memory { result ≢ Err faults.Memory }
 {
-    if !bytes.is_empty() && !pipe.reader {
+    match takes(pipe, flags, bytes.len()) {
+        Ok(_) => Ok(pipe.take(bytes)),
+        Err(fault) => Err(fault),
+    }
+}
+
+/// How many of so many bytes a pipe takes: those that fit.
+pub(crate) fn takes(pipe: &Pipe, flags: u64, size: usize) -> Result<usize, FileFault>
+    ensures ok { IfOk result (λ count. (taken_by pipe.now flags size ≡ Ok count) × (count ≡ min size (room_in pipe.now))) }
+    ensures fault { IfErr result (λ fault. taken_by pipe.now flags size ≡ Err fault) }
+    ensures memory { result ≢ Err faults.Memory }
+{
+    if size > 0 && !pipe.reader {
         return Err(FileFault::Errno(Errno::EPIPE));
     }
     let room = pipe.room();
-    if bytes.len() > room {
-        let goes_in_part = bytes.len() > WHOLE_SIZE && flags & NO_WAIT == NO_WAIT && room > 0;
-        if !goes_in_part {
-            return Err(waits(flags));
-        }
+    if size <= room {
+        return Ok(size);
     }
-    Ok(pipe.take(bytes))
+    if size > WHOLE_SIZE && never_waits(flags) && room > 0 {
+        return Ok(room);
+    }
+    Err(waits(flags))
 }
 
 /// Whether a read of so many bytes is done at once, where so many are there.
-fn is_ready(size: usize, count: usize, more: bool) -> bool
+pub(crate) fn is_ready(size: usize, count: usize, more: bool) -> bool
     ensures { result ≡ ((size == 0) || (not (count == 0) || not more)) }
 {
     size == 0 || count != 0 || !more
@@ -576,14 +588,21 @@ fn waits(flags: u64) -> FileFault
     ensures reads { waits {A = List ℕ} flags ≡ Err result }
     ensures memory { result ≢ faults.Memory }
 {
-    if flags & NO_WAIT == NO_WAIT {
+    if never_waits(flags) {
         return FileFault::Errno(Errno::EAGAIN);
     }
     FileFault::Block
 }
 
+/// Whether a description never waits.
+pub(crate) fn never_waits(flags: u64) -> bool
+    ensures { result ≡ never_waits flags }
+{
+    flags & NO_WAIT == NO_WAIT
+}
+
 /// Whether a description can be read.
-fn can_read(flags: u64) -> bool
+pub(crate) fn can_read(flags: u64) -> bool
     ensures { result ≡ can_read flags }
 {
     flags % 4 == 0 || flags % 4 == 2

@@ -1,4 +1,4 @@
--- What a thread's system call does at once: a call that doesn't wait, or the end of the process. Its number stands in a7
+-- What a thread's system call does at once: a call that is answered, or the end of the process. Its number stands in a7
 -- (x17), its arguments in a0 to a5 (x10 to x15).
 -- Source: syscall(2), exit_group(2), _exit(2).
 use Rattle.std.specs.Prelude.{ℕ, ◌%◌, ◌==◌, ◌||◌, Bool, true, false, ℤ, List, [], ◌∷◌, Option, Some, None}
@@ -10,9 +10,13 @@ use Rattle.call_table.specs.declared.call.CallNo.TheVariants.{Exit, ExitGroup}
 use Rattle.call_table.specs.Table.{call_of, number_of}
 use Rattle.file_tree.specs.declared.errno.Errno.TheVariants.{ENOSYS}
 use Rattle.isa_exec.specs.Registers.{Registers, behind, going_on_at, register, with_register}
-use Rattle.host_calls.specs.Answers.{Answered, argument, ending, refuses, unreserved}
-use Rattle.host_calls.specs.Immediate.{immediate}
+use Rattle.futex_table.specs.Waiters.{left}
+use Rattle.host_calls.specs.Answers.{Answered, answers, argument, ending, refuses, unreserved}
 use Rattle.host_calls.specs.Shared.{Shared}
+use Rattle.host_waits.specs.declared.beginning.Begun.{Begun}
+use Rattle.host_waits.specs.declared.beginning.Begun.TheVariants.{Answer, Waits}
+use Rattle.host_waits.specs.Calls.{entered}
+use Rattle.host_waits.specs.Futexes.{with_futexes}
 use Rattle.guest_core.specs.declared.calls.CallOutcome.{CallOutcome}
 use Rattle.guest_core.specs.declared.calls.CallOutcome.TheVariants.{Answers, Ends}
 use Rattle.guest_core.specs.declared.ends.End.TheVariants as ends
@@ -41,9 +45,17 @@ answering answered = record { shared = answered.shared; outcome = Answers answer
 abbrev pub exit_group : ℕ → ℕ → Shared → Called
 exit_group thread code shared = record { shared = unreserved thread shared; outcome = Ends (ends.Exit (code % 256)) }
 
+-- a call that would wait answers ENOSYS and waits nowhere, until threads wait
+abbrev pub at_once_by : ℕ → Begun → Shared → Answered
+at_once_by thread (Answer answer) shared = answers answer shared
+at_once_by thread (Waits wait) shared = refuses ENOSYS (with_futexes (left thread shared.futexes) shared)
+
+unfoldable pub at_once : ℕ → Call → Shared → Answered
+at_once thread call shared = at_once_by thread (entered thread call shared).begun (entered thread call shared).shared
+
 abbrev pub made_by : Bool → ℕ → Call → Shared → Called
 made_by true thread call shared = exit_group thread (argument 0 call.args) shared
-made_by false thread call shared = answering (immediate thread call shared)
+made_by false thread call shared = answering (at_once thread call shared)
 
 abbrev pub called_as : Option Call → ℕ → Shared → Called
 called_as None thread shared = answering (ending thread (refuses ENOSYS shared))

@@ -55,6 +55,7 @@ first_shared program files = record {
   memory = first_memory program;
   held = joined first_thread [];
   files = files;
+  futexes = [];
   queue = empty_queue;
   program_break = break_behind program.image.top;
   drawn = 16;

@@ -23,7 +23,7 @@
 //!                 the answer in a0, pc behind the ecall
 //! ```
 //!
-//! Which call is made at the window no row says: a call is `host_calls::immediate`, but for those of the core's own, today
+//! Which call is made at the window no row says: a call is `call_at_once`, but for those of the core's own, today
 //! `exit_group`.
 //!
 //! Why there is a window. A handler must run before a call that would wait, and between the last look at the signals and
@@ -62,7 +62,7 @@ mod starting;
 mod state;
 mod thread;
 
-pub use calls::{CallOutcome, asked, ends_process};
+pub use calls::{CallOutcome, asked, call_at_once, ends_process};
 pub use ends::End;
 pub use events::Event;
 pub use machine::{Core, CoreParts, CoreRefusal, FIRST_THREAD};

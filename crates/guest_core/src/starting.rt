@@ -12,6 +12,7 @@ use crate::thread::Thread;
 use elf_file::Elf;
 use file_table::Files;
 use file_tree::Text;
+use futex_table::FutexTable;
 use guest_pages::{
     CHANGEABLE, MOST_PAGES, MOST_STACK_BYTES, MapFault, Pages, RUNNABLE, STACK_PAGES, TRAMPOLINE,
 };
@@ -106,6 +107,7 @@ fn state_of(
             pages,
             held,
             files,
+            futexes: FutexTable::new(alloc),
             pending: Pending::new(alloc)?,
             program_break: Break::behind(elf.top),
             drawn: FIRST_RANDOM,

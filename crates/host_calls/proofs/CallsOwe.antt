@@ -8,7 +8,7 @@ use Rattle.host_calls.specs.Immediate.{immediate, made}
 use Rattle.host_calls.specs.Owes.{Owes}
 use Rattle.host_calls.specs.Shared.{Shared}
 use Rattle.host_calls.proofs.Shapes.{answers_alone, draws, maps, moves_break, protects, stores, tells_limit, tells_time, unmaps}
-use Rattle.host_calls.proofs.FileShapes.{controls, cuts, duplicates, duplicates_to, ends_descriptor, lists_entries, makes_dir, makes_pipe, moves_offset, no_links, no_terminal, opens, reads_at_offset, reads_many, reads_one, tells_open, tells_path, unlinks, writes_at_offset, writes_many, writes_one}
+use Rattle.host_calls.proofs.FileShapes.{controls, cuts, duplicates, duplicates_to, ends_descriptor, lists_entries, makes_dir, makes_pipe, moves_offset, no_links, no_terminal, opens, reads_at_offset, tells_open, tells_path, unlinks, writes_at_offset}
 
 made_owes : (call : CallNo) (thread : ℕ) (args : List ℕ) (shared : Shared) → Owes thread shared (unreserved thread (made call thread args shared).shared)
 made_owes call.Dup thread args shared = duplicates thread _ shared
@@ -23,10 +23,10 @@ made_owes call.Close thread args shared = ends_descriptor thread _ shared
 made_owes call.Pipe2 thread args shared = makes_pipe thread _ _ shared
 made_owes call.Getdents64 thread args shared = lists_entries thread _ _ _ shared
 made_owes call.Lseek thread args shared = moves_offset thread _ _ _ shared
-made_owes call.Read thread args shared = reads_one thread _ _ _ shared
-made_owes call.Write thread args shared = writes_one thread _ _ _ shared
-made_owes call.Readv thread args shared = reads_many thread _ _ _ shared
-made_owes call.Writev thread args shared = writes_many thread _ _ _ shared
+made_owes call.Read thread args shared = answers_alone thread shared
+made_owes call.Write thread args shared = answers_alone thread shared
+made_owes call.Readv thread args shared = answers_alone thread shared
+made_owes call.Writev thread args shared = answers_alone thread shared
 made_owes call.Pread64 thread args shared = reads_at_offset thread _ _ _ _ shared
 made_owes call.Pwrite64 thread args shared = writes_at_offset thread _ _ _ _ shared
 made_owes call.Ppoll thread args shared = answers_alone thread shared

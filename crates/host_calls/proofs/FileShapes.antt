@@ -1,8 +1,7 @@
 -- What calls on files owe: each by the shape of what it does.
-use Rattle.std.proofs.Common.{◌≡◌, ℕ, ℤ, pos, Bool, true, false, not, ◌==◌, ◌||◌, ◌*◌, min, cond, List, [], ◌∷◌, length, is_some, Option, Some, None, Result, Ok, Err, refl, sym, ap, subst, ◌∙◌}
+use Rattle.std.proofs.Common.{◌≡◌, ℕ, pos, true, false, ◌==◌, min, List, length, is_some, Option, Some, None, Result, Ok, Err, refl, sym, subst}
 use Rattle.std.specs.Int.{w64, cast_signed}
 use Rattle.file_tree.specs.declared.errno.Errno.{Errno}
-use Rattle.file_tree.specs.declared.errno.Errno.TheVariants.{EBADF, EINVAL, ENOTTY}
 use Rattle.file_table.specs.declared.fault.FileFault.{FileFault}
 use Rattle.file_table.specs.declared.state.Opened.{Opened}
 use Rattle.file_table.specs.Descriptors.{close as closes, dup as dups, dup_to as dups_to, marked, what, with_flags}
@@ -13,26 +12,24 @@ use Rattle.file_table.specs.Moving.{read as reads, read_at as reads_at, seek as 
 use Rattle.file_table.specs.Opening.{opened}
 use Rattle.file_table.specs.Paths.{with_dir, without}
 use Rattle.file_table.specs.Pipes.{piped}
-use Rattle.file_table.specs.State.{Files, outputs_of}
+use Rattle.file_table.specs.State.{Files}
 use Rattle.file_table.proofs.OutputFacts.{Grows, Keeps, close_keeps, dir_keeps, done_files, dup_keeps, dup_to_keeps, flags_keep, list_keeps, marked_keeps, opened_keeps, piped_keeps, read_keeps, seek_keeps, themselves, truncate_keeps, without_keeps, write_at_keeps, write_grows}
 use Rattle.file_table.proofs.RoomFacts.{Few, list_few}
-use Rattle.guest_pages.specs.Apart.{IsApart, Stays}
 use Rattle.guest_pages.specs.Faults.{first_fault, writable}
-use Rattle.guest_pages.specs.Operations.{bytes_at}
 use Rattle.guest_pages.proofs.ApartFacts.{written_stays}
 use Rattle.host_calls.specs.declared.pieces.Piece.{Piece}
 use Rattle.host_calls.specs.declared.stat.Status.{Status}
-use Rattle.host_calls.specs.Answers.{Answered, Refusal, answers, refuses, unless, unreserved}
+use Rattle.host_calls.specs.Answers.{unreserved}
 use Rattle.host_calls.specs.Descriptors.{close, dup, dup3, dup3_refusals, end_bytes, fcntl, ioctl, mark, pipe2, pipe_refusals, told_ends}
-use Rattle.host_calls.specs.Files.{answered_by, moved_by, done_by, errno_of, left_by, told_of, with_files}
-use Rattle.host_calls.specs.Moving.{ftruncate, getdents64, is_readable, is_writable, listing_refusals, lseek, offset_refusals, pread64, pwrite64, read, read_into, reading_refusals, readv, taken, taken_at, told_entries, vector, vector_refusals, write, write_from, writev, writing_refusals}
+use Rattle.host_calls.specs.Files.{answered_by, moved_by, done_by, left_by, told_of, with_files}
+use Rattle.host_calls.specs.Moving.{ftruncate, getdents64, listing_refusals, lseek, offset_refusals, pread64, pwrite64, read_into, reading_refusals, taken, taken_at, told_entries, write_from, writing_refusals}
 use Rattle.host_calls.specs.Owes.{Owes}
-use Rattle.host_calls.specs.Paths.{PathText, led_to, mkdir_by, mkdirat, no_link, open_by, open_refusals, openat, path_at, path_refusals, readlink_by, readlinkat, unlink_by, unlink_refusals, unlinkat}
+use Rattle.host_calls.specs.Paths.{mkdirat, open_refusals, openat, path_at, path_refusals, readlinkat, unlink_refusals, unlinkat}
 use Rattle.host_calls.specs.Pieces.{any_bad, gathered, most_bytes, one_piece, put_in, scattered, stored_of, total, with_stored}
 use Rattle.host_calls.specs.Shared.{Shared}
-use Rattle.host_calls.specs.Stat.{fstat, newfstatat, opened_status, path_status, room_refusals, stat_by, stat_refusals, status_bytes, told}
-use Rattle.host_calls.proofs.PieceFacts.{first_good, no_fault, part_good, scattered_eased, scattered_stays}
-use Rattle.host_calls.proofs.Shapes.{AllEased, Passes, answers_alone, changes_files, eased_same, eased_store, either_owes, stores, stores_all, unless_owes, writes_out}
+use Rattle.host_calls.specs.Stat.{fstat, newfstatat, opened_status, path_status, room_refusals, stat_refusals, status_bytes, told}
+use Rattle.host_calls.proofs.PieceFacts.{no_fault, part_good, scattered_eased, scattered_stays}
+use Rattle.host_calls.proofs.Shapes.{answers_alone, changes_files, eased_same, eased_store, either_owes, stores, stores_all, unless_owes, writes_out}
 
 -- ---- answers of the table of files
 
@@ -94,7 +91,7 @@ told_ends_owe thread at (Err errno) shared good keeps = answers_alone thread sha
 told_ends_owe thread at (Ok it) shared good keeps =
     stores_all thread shared (with_stored (put_in thread at (end_bytes it.answer) (stored_of shared)) (with_files it.files shared))
     (λ apart. written_stays at (end_bytes it.answer) shared.memory apart (subst (λ (n : ℕ). first_fault writable shared.memory at n ≡ None) (sym (ends_length it.answer)) good))
-    (eased_store thread at (length (end_bytes it.answer)) shared.held shared.held (eased_same shared.held)) keeps refl refl
+    (eased_store thread at (length (end_bytes it.answer)) shared.held shared.held (eased_same shared.held)) keeps refl refl refl
 
 pub makes_pipe : (thread at flags : ℕ) (shared : Shared) → Owes thread shared (unreserved thread (pipe2 thread at flags shared).shared)
 unfolding pipe2
@@ -107,26 +104,18 @@ taken_owes : (thread : ℕ) (pieces : List Piece) (r : Result (Done (List ℕ)) 
 taken_owes thread pieces (Err fault) shared good keeps = answers_alone thread shared
 taken_owes thread pieces (Ok it) shared good keeps =
     stores_all thread shared (with_stored (scattered thread pieces it.answer (stored_of shared)) (with_files it.files shared))
-    (scattered_stays thread pieces it.answer (stored_of shared) good) (scattered_eased thread pieces it.answer (stored_of shared)) keeps refl refl
+    (scattered_stays thread pieces it.answer (stored_of shared) good) (scattered_eased thread pieces it.answer (stored_of shared)) keeps refl refl refl
 
 pub reads_into : (thread fd : ℕ) (pieces : List Piece) (shared : Shared) → Owes thread shared (unreserved thread (read_into thread fd pieces shared).shared)
 unfolding read_into
 reads_into thread fd pieces shared = unless_owes (reading_refusals fd pieces shared) thread shared _
     (λ passes. taken_owes thread pieces (reads fd (total pieces) shared.files) shared passes.1.0 (read_keeps fd (total pieces) shared.files))
 
-pub reads_one : (thread fd at wish : ℕ) (shared : Shared) → Owes thread shared (unreserved thread (read thread fd at wish shared).shared)
-unfolding read
-reads_one thread fd at wish shared = reads_into thread fd (one_piece at wish) shared
-
-pub reads_many : (thread fd at count : ℕ) (shared : Shared) → Owes thread shared (unreserved thread (readv thread fd at count shared).shared)
-unfolding readv
-reads_many thread fd at count shared = unless_owes (vector_refusals (is_readable fd shared.files) at count shared) thread shared _ (λ passes. reads_into thread fd (vector at count shared) shared)
-
 taken_at_owes : (thread : ℕ) (pieces : List Piece) (r : Result (List ℕ) Errno) (shared : Shared) → any_bad writable shared.memory pieces ≡ false → Owes thread shared (unreserved thread (taken_at thread pieces r shared).shared)
 taken_at_owes thread pieces (Err errno) shared good = answers_alone thread shared
 taken_at_owes thread pieces (Ok bytes) shared good =
     stores_all thread shared (with_stored (scattered thread pieces bytes (stored_of shared)) shared)
-    (scattered_stays thread pieces bytes (stored_of shared) good) (scattered_eased thread pieces bytes (stored_of shared)) (refl, λ device lives. lives) refl refl
+    (scattered_stays thread pieces bytes (stored_of shared) good) (scattered_eased thread pieces bytes (stored_of shared)) (refl, λ device lives. lives) refl refl refl
 
 pub reads_at_offset : (thread fd at wish offset : ℕ) (shared : Shared) → Owes thread shared (unreserved thread (pread64 thread fd at wish offset shared).shared)
 unfolding pread64
@@ -140,14 +129,6 @@ pub writes_from : (thread fd : ℕ) (pieces : List Piece) (shared : Shared) → 
 unfolding write_from
 writes_from thread fd pieces shared = unless_owes (writing_refusals fd pieces shared) thread shared _
     (λ passes. answered_grows thread (writes fd (gathered shared.memory pieces) shared.files) shared (write_grows fd (gathered shared.memory pieces) shared.files))
-
-pub writes_one : (thread fd at wish : ℕ) (shared : Shared) → Owes thread shared (unreserved thread (write fd at wish shared).shared)
-unfolding write
-writes_one thread fd at wish shared = writes_from thread fd (one_piece at wish) shared
-
-pub writes_many : (thread fd at count : ℕ) (shared : Shared) → Owes thread shared (unreserved thread (writev fd at count shared).shared)
-unfolding writev
-writes_many thread fd at count shared = unless_owes (vector_refusals (is_writable fd shared.files) at count shared) thread shared _ (λ passes. writes_from thread fd (vector at count shared) shared)
 
 pub writes_at_offset : (thread fd at wish offset : ℕ) (shared : Shared) → Owes thread shared (unreserved thread (pwrite64 fd at wish offset shared).shared)
 unfolding pwrite64
@@ -170,7 +151,7 @@ told_owes thread at room (Err errno) shared good few keeps = answers_alone threa
 told_owes thread at room (Ok it) shared good few keeps =
     stores_all thread shared (with_stored (put_in thread at it.answer (stored_of shared)) (with_files it.files shared))
     (λ apart. written_stays at it.answer shared.memory apart (part_good writable shared.memory at (length it.answer) room good few))
-    (eased_store thread at (length it.answer) shared.held shared.held (eased_same shared.held)) keeps refl refl
+    (eased_store thread at (length it.answer) shared.held shared.held (eased_same shared.held)) keeps refl refl refl
 
 pub lists_entries : (thread fd at wish : ℕ) (shared : Shared) → Owes thread shared (unreserved thread (getdents64 thread fd at wish shared).shared)
 unfolding getdents64

@@ -3,7 +3,7 @@ use Rattle.std.proofs.Common.{◌≡◌, ℕ, ◌+◌, ◌-◌, ◌^◌, ◌<◌
 use Rattle.std.proofs.lemmas.Bool.{cases_lt}
 use Rattle.guest_pages.specs.declared.rights.Rights.{Rights}
 use Rattle.guest_pages.specs.Apart.{IsApart, KeepsCode, Stays, code_in}
-use Rattle.guest_pages.specs.Cells.{Cell, cell, has_none, include}
+use Rattle.guest_pages.specs.Cells.{Cell, cell, has_none}
 use Rattle.guest_pages.specs.Faults.{fault_of, first_fault}
 use Rattle.guest_pages.specs.Finding.{touches_code}
 use Rattle.guest_pages.specs.Operations.{placed, with_byte, written}

@@ -1,5 +1,5 @@
 -- Pieces of memory: what is good of them, and what bytes that go into them leave.
-use Rattle.std.proofs.Common.{◌≡◌, ℕ, ◌+◌, ◌-◌, ◌^◌, ◌<◌, ◌≤◌, ◌||◌, min, Bool, true, false, if◌then◌else◌, List, [], ◌∷◌, ◌++◌, length, take, drop, get_or, Option, Some, None, is_some, inl, inr, refl, sym, ap, subst, ◌∙◌, arith, length-take, length-drop, length-append}
+use Rattle.std.proofs.Common.{◌≡◌, ℕ, ◌+◌, ◌-◌, ◌^◌, ◌<◌, ◌≤◌, ◌||◌, min, Bool, true, false, if◌then◌else◌, List, [], ◌∷◌, ◌++◌, length, take, drop, get_or, Option, Some, None, is_some, inl, inr, refl, sym, ap, ◌∙◌, arith, length-take, length-drop, length-append}
 use Rattle.std.proofs.lemmas.Bool.{cases_lt}
 use Rattle.std.proofs.lemmas.List.{drop-drop, drop_all, drop_more, take_min}
 use Rattle.std.proofs.lemmas.List.Sums.{sum_by-drop_more}
@@ -11,7 +11,6 @@ use Rattle.guest_pages.specs.Faults.{KeepsRights, fault_of, first_fault, writabl
 use Rattle.guest_pages.specs.Operations.{bytes_at, with_byte, written}
 use Rattle.guest_pages.specs.Ranges.{Range, cell_at, within}
 use Rattle.guest_pages.proofs.ApartFacts.{same_stays, written_stays}
-use Rattle.guest_pages.proofs.ByteFacts.{good_part}
 use Rattle.guest_pages.proofs.CellFacts.{byte_kept, choice_kept, ranges_kept, reads_below}
 use Rattle.guest_pages.proofs.FaultFacts.{fault_none, good_at}
 use Rattle.word_memory.specs.declared.reservations.Held.{Held}

@@ -6,10 +6,11 @@ use Rattle.file_tree.specs.declared.errno.Errno.{Errno}
 use Rattle.file_tree.specs.declared.errno.Errno.TheVariants.{EACCES, ENOMEM}
 use Rattle.file_table.specs.State.{Files, OnlyDie, outputs_of}
 use Rattle.file_table.proofs.OutputFacts.{GoesOn, Kept}
+use Rattle.futex_table.specs.declared.waiter.Waiter.{Waiter}
 use Rattle.guest_pages.specs.declared.fault.PageFault.{PageFault}
 use Rattle.guest_pages.specs.Apart.{IsApart, Stays}
 use Rattle.guest_pages.specs.Cells.{Cell}
-use Rattle.guest_pages.specs.Faults.{changeable, first_fault, readable, writable}
+use Rattle.guest_pages.specs.Faults.{changeable, first_fault, writable}
 use Rattle.guest_pages.specs.Finding.{any_cell, any_mapped, free_place, highest_free, is_code, is_mapped, touches_code}
 use Rattle.guest_pages.specs.Limits.{page_size, user_end}
 use Rattle.guest_pages.specs.Operations.{placed, protected, unmapped, written}
@@ -17,15 +18,15 @@ use Rattle.guest_pages.specs.Random.{random_bytes}
 use Rattle.guest_pages.specs.Ranges.{Range, cell_at}
 use Rattle.guest_pages.proofs.ApartFacts.{placed_stays, protected_stays, same_stays, unmapped_stays, written_stays}
 use Rattle.word_memory.specs.declared.reservations.Held.{Held}
-use Rattle.word_memory.specs.Reservations.{reserving, stored_to, touches, unless_touched, with_reservation}
+use Rattle.word_memory.specs.Reservations.{reserving, stored_to, touches, unless_touched}
 use Rattle.host_calls.specs.Answers.{Answered, Refusal, answers, refuses, stored, stored_unless, unless, unreserved}
 use Rattle.host_calls.specs.Breaks.{most_break, pages_of, rounded_up}
 use Rattle.host_calls.specs.Files.{with_files}
 use Rattle.host_calls.specs.Identity.{drew, getrandom, limit_refusals, limits, prlimit64, told_limit}
 use Rattle.host_calls.specs.Maps.{brk, contents, filled, is_fixed, is_outside, lowered, mapped_with, mmap, mmap_refusals, mprotect, mprotect_refusals, munmap, munmap_refusals, part_inside, placed_anywhere, placed_at, placed_fixed, placed_free, placed_so, raised, rights_of, same_break, too_many, unplaced, with_break, with_memory}
-use Rattle.host_calls.specs.Owes.{Ended, Grows, OnlyEnd, Owes}
+use Rattle.host_calls.specs.Owes.{Ended, Grows, NoneJoins, OnlyEnd, Owes}
 use Rattle.host_calls.specs.Queue.{OnlySends, Queue}
-use Rattle.host_calls.specs.Shared.{Shared, with_output}
+use Rattle.host_calls.specs.Shared.{Shared}
 use Rattle.host_calls.proofs.FillFacts.{filled_stays}
 use Rattle.host_calls.specs.Time.{clock_gettime, clock_refusals, time_bytes}
 
@@ -102,6 +103,9 @@ eased_end thread (old ∷ olds) (new ∷ news) eased = (ended_by (new.thread == 
 same_kept : (old new : Files) → new ≡ old → Kept old new
 same_kept old new same = subst (Kept old) (sym same) (refl, λ device lives. lives)
 
+same_joins : (thread : ℕ) (old new : List Waiter) → new ≡ old → NoneJoins thread old new
+same_joins thread old new same = subst (NoneJoins thread old) (sym same) (λ other apart held. held)
+
 pub own_ends : (thread : ℕ) (held : List Held) → OnlyEnd thread held (reserving thread None held)
 own_ends thread held = eased_end thread held held (eased_same held)
 
@@ -114,37 +118,40 @@ answers_alone thread shared = record {
   outputs = same_grows (outputs_of shared.files) (outputs_of shared.files) refl;
   lives = λ device lives. lives;
   held = own_ends thread shared.held;
+  futexes = λ other apart held. held;
   queue = same_sends shared.queue shared.queue refl;
   clock = refl;
 }
 
 -- it changes memory, and stores nothing that others may have reserved
-pub changes_memory : (thread : ℕ) (old new : Shared) → (IsApart old.memory → Stays old.memory new.memory) → new.held ≡ old.held → new.files ≡ old.files → new.queue ≡ old.queue → new.clock ≡ old.clock → Owes thread old (unreserved thread new)
-changes_memory thread old new stays held files queue clock = record {
+pub changes_memory : (thread : ℕ) (old new : Shared) → (IsApart old.memory → Stays old.memory new.memory) → new.held ≡ old.held → new.files ≡ old.files → new.queue ≡ old.queue → new.clock ≡ old.clock → new.futexes ≡ old.futexes → Owes thread old (unreserved thread new)
+changes_memory thread old new stays held files queue clock futexes = record {
   memory = stays;
   outputs = same_grows (outputs_of old.files) (outputs_of new.files) (ap outputs_of files);
   lives = (same_kept old.files new.files files).1;
   held = subst (λ (h : List Held). OnlyEnd thread old.held (reserving thread None h)) (sym held) (own_ends thread old.held);
+  futexes = same_joins thread old.futexes new.futexes futexes;
   queue = same_sends old.queue new.queue queue;
   clock = clock;
 }
 
 -- it stores bytes, which may end reservations of others, and may go on in files
-pub stores_all : (thread : ℕ) (old new : Shared) → (IsApart old.memory → Stays old.memory new.memory) → AllEased old.held new.held → Kept old.files new.files → new.queue ≡ old.queue → new.clock ≡ old.clock → Owes thread old (unreserved thread new)
-stores_all thread old new stays held files queue clock = record {
+pub stores_all : (thread : ℕ) (old new : Shared) → (IsApart old.memory → Stays old.memory new.memory) → AllEased old.held new.held → Kept old.files new.files → new.queue ≡ old.queue → new.clock ≡ old.clock → new.futexes ≡ old.futexes → Owes thread old (unreserved thread new)
+stores_all thread old new stays held files queue clock futexes = record {
   memory = stays;
   outputs = same_grows (outputs_of old.files) (outputs_of new.files) files.0;
   lives = files.1;
   held = eased_end thread old.held new.held held;
+  futexes = same_joins thread old.futexes new.futexes futexes;
   queue = same_sends old.queue new.queue queue;
   clock = clock;
 }
 
-pub stores_bytes : (thread at : ℕ) (bytes : List ℕ) (old new : Shared) → first_fault writable old.memory at (length bytes) ≡ None → new.memory ≡ written at bytes old.memory → new.held ≡ stored_to thread at (length bytes) old.held → new.files ≡ old.files → new.queue ≡ old.queue → new.clock ≡ old.clock → Owes thread old (unreserved thread new)
-stores_bytes thread at bytes old new good memory held files queue clock = stores_all thread old new
+pub stores_bytes : (thread at : ℕ) (bytes : List ℕ) (old new : Shared) → first_fault writable old.memory at (length bytes) ≡ None → new.memory ≡ written at bytes old.memory → new.held ≡ stored_to thread at (length bytes) old.held → new.files ≡ old.files → new.queue ≡ old.queue → new.clock ≡ old.clock → new.futexes ≡ old.futexes → Owes thread old (unreserved thread new)
+stores_bytes thread at bytes old new good memory held files queue clock futexes = stores_all thread old new
     (λ apart. subst (Stays old.memory) (sym memory) (written_stays at bytes old.memory apart good))
     (subst (AllEased old.held) (sym held) (eased_store thread at (length bytes) old.held old.held (eased_same old.held)))
-    (same_kept old.files new.files files) queue clock
+    (same_kept old.files new.files files) queue clock futexes
 
 -- it changes files, and writes nothing to devices
 pub changes_files : (thread : ℕ) (files : Files) (shared : Shared) → Kept shared.files files → Owes thread shared (unreserved thread (with_files files shared))
@@ -153,6 +160,19 @@ changes_files thread files shared same = record {
   outputs = same_grows (outputs_of shared.files) (outputs_of files) same.0;
   lives = same.1;
   held = own_ends thread shared.held;
+  futexes = λ other apart held. held;
+  queue = same_sends shared.queue shared.queue refl;
+  clock = refl;
+}
+
+-- it wakes and moves those that wait at addresses, or comes to wait itself
+pub changes_futexes : (thread : ℕ) (futexes : List Waiter) (shared : Shared) → NoneJoins thread shared.futexes futexes → Owes thread shared (unreserved thread (record shared { futexes = futexes }))
+changes_futexes thread futexes shared joins = record {
+  memory = λ apart. same_stays shared.memory shared.memory apart refl;
+  outputs = same_grows (outputs_of shared.files) (outputs_of shared.files) refl;
+  lives = λ device lives. lives;
+  held = own_ends thread shared.held;
+  futexes = joins;
   queue = same_sends shared.queue shared.queue refl;
   clock = refl;
 }
@@ -164,6 +184,7 @@ writes_out thread files shared goes = record {
   outputs = record { device = goes.0.0; more = goes.0.1; grown = goes.0.2 };
   lives = goes.1;
   held = own_ends thread shared.held;
+  futexes = λ other apart held. held;
   queue = same_sends shared.queue shared.queue refl;
   clock = refl;
 }
@@ -188,7 +209,7 @@ unless_owes (first ∷ refusals) thread shared answered made =
 
 stored_owes : (bad : Option PageFault) (thread at : ℕ) (bytes : List ℕ) (answer : ℤ) (shared : Shared) → first_fault writable shared.memory at (length bytes) ≡ bad → Owes thread shared (unreserved thread (stored_unless bad thread at bytes answer shared).shared)
 stored_owes (Some bad) thread at bytes answer shared is = answers_alone thread shared
-stored_owes None thread at bytes answer shared is = stores_bytes thread at bytes shared (stored_unless None thread at bytes answer shared).shared is refl refl refl refl refl
+stored_owes None thread at bytes answer shared is = stores_bytes thread at bytes shared (stored_unless None thread at bytes answer shared).shared is refl refl refl refl refl refl
 
 pub stores : (thread at : ℕ) (bytes : List ℕ) (answer : ℤ) (shared : Shared) → Owes thread shared (unreserved thread (stored thread at bytes answer shared).shared)
 unfolding stored
@@ -205,7 +226,7 @@ tells_limit thread pid resource new old shared = unless_owes (limit_refusals pid
 
 drew_owes : (bad : Option PageFault) (thread at : ℕ) (bytes : List ℕ) (shared : Shared) → first_fault writable shared.memory at (length bytes) ≡ bad → Owes thread shared (unreserved thread (drew bad thread at bytes shared).shared)
 drew_owes (Some bad) thread at bytes shared is = answers_alone thread shared
-drew_owes None thread at bytes shared is = stores_bytes thread at bytes shared (drew None thread at bytes shared).shared is refl refl refl refl refl
+drew_owes None thread at bytes shared is = stores_bytes thread at bytes shared (drew None thread at bytes shared).shared is refl refl refl refl refl refl
 
 pub draws : (thread at wish : ℕ) (shared : Shared) → Owes thread shared (unreserved thread (getrandom thread at wish shared).shared)
 unfolding getrandom
@@ -218,7 +239,7 @@ draws thread at wish shared =
 pub unmaps : (thread at size : ℕ) (shared : Shared) → Owes thread shared (unreserved thread (munmap at size shared).shared)
 unfolding munmap
 unmaps thread at size shared = unless_owes (munmap_refusals at size shared) thread shared (answers (pos 0) (with_memory (unmapped at (rounded_up size) shared.memory) shared))
-    (λ passes. changes_memory thread shared (with_memory (unmapped at (rounded_up size) shared.memory) shared) (unmapped_stays at (rounded_up size) shared.memory passes.1.0) refl refl refl refl)
+    (λ passes. changes_memory thread shared (with_memory (unmapped at (rounded_up size) shared.memory) shared) (unmapped_stays at (rounded_up size) shared.memory passes.1.0) refl refl refl refl refl)
 
 -- a range within user addresses lies whole within them
 whole_inside : (at size : ℕ) → is_outside at size ≡ false → part_inside at size ≡ size
@@ -231,7 +252,7 @@ pub protects : (thread at size protection : ℕ) (shared : Shared) → Owes thre
 unfolding mprotect
 protects thread at size protection shared = unless_owes (mprotect_refusals at (rounded_up size) protection shared) thread shared (answers (pos 0) (with_memory (protected at (rounded_up size) (rights_of protection) shared.memory) shared))
     (λ passes. changes_memory thread shared (with_memory (protected at (rounded_up size) (rights_of protection) shared.memory) shared)
-    (protected_stays at (rounded_up size) (rights_of protection) shared.memory refl (no_code_whole shared.memory at (rounded_up size) passes.1.1.0 passes.1.1.1.0)) refl refl refl refl)
+    (protected_stays at (rounded_up size) (rights_of protection) shared.memory refl (no_code_whole shared.memory at (rounded_up size) passes.1.1.0 passes.1.1.1.0)) refl refl refl refl refl)
 
 no_map_cell : (o : Option Cell) → is_mapped o ≡ false → is_code o ≡ false
 no_map_cell None none = refl
@@ -284,7 +305,7 @@ so_by false at count protection bytes memory apart = free_stays (free_place memo
 with_owes : (r : Result (List ℕ) Errno) (thread at count protection flags : ℕ) (shared : Shared) → Owes thread shared (unreserved thread (mapped_with at count (rights_of protection) flags r shared).shared)
 with_owes (Err errno) thread at count protection flags shared = answers_alone thread shared
 with_owes (Ok bytes) thread at count protection flags shared =
-    changes_memory thread shared (with_memory (placed_so at count (rights_of protection) flags bytes shared.memory).memory shared) (so_by (is_fixed flags) at count protection bytes shared.memory) refl refl refl refl
+    changes_memory thread shared (with_memory (placed_so at count (rights_of protection) flags bytes shared.memory).memory shared) (so_by (is_fixed flags) at count protection bytes shared.memory) refl refl refl refl refl
 
 pub maps : (thread at size protection flags descriptor offset : ℕ) (shared : Shared) → Owes thread shared (unreserved thread (mmap at size protection flags descriptor offset shared).shared)
 unfolding mmap
@@ -302,14 +323,14 @@ unfolding raised
 raised_owes thread address from size shared =
     either_owes (any_mapped shared.memory from size || too_many (placed from size changeable shared.memory)) thread shared (same_break shared)
     (answers (pos address) (with_break address (placed from size changeable shared.memory) shared)) (λ refused. answers_alone thread shared)
-    (λ free. changes_memory thread shared (with_break address (placed from size changeable shared.memory) shared) (placed_stays from size changeable shared.memory refl (no_map_no_code shared.memory from size (first_false _ _ free))) refl refl refl refl)
+    (λ free. changes_memory thread shared (with_break address (placed from size changeable shared.memory) shared) (placed_stays from size changeable shared.memory refl (no_map_no_code shared.memory from size (first_false _ _ free))) refl refl refl refl refl)
 
 lowered_owes : (thread address from size : ℕ) (shared : Shared) → Owes thread shared (unreserved thread (lowered address from size shared).shared)
 unfolding lowered
 lowered_owes thread address from size shared =
     either_owes (touches_code shared.memory from size) thread shared (same_break shared)
     (answers (pos address) (with_break address (unmapped from size shared.memory) shared)) (λ code. answers_alone thread shared)
-    (λ none. changes_memory thread shared (with_break address (unmapped from size shared.memory) shared) (unmapped_stays from size shared.memory none) refl refl refl refl)
+    (λ none. changes_memory thread shared (with_break address (unmapped from size shared.memory) shared) (unmapped_stays from size shared.memory none) refl refl refl refl refl)
 
 pub moves_break : (thread wish : ℕ) (shared : Shared) → Owes thread shared (unreserved thread (brk wish shared).shared)
 unfolding brk

@@ -1,5 +1,5 @@
 -- Pieces whose places and sizes stand in bytes.
-use Rattle.std.proofs.Common.{◌≡◌, ℕ, zero, suc, ◌-◌, ◌<◌, min, Result, Ok, Err, IfOk, OnOk, List, [], ◌∷◌, drop, refl, sym, ap, ◌∙◌, arith}
+use Rattle.std.proofs.Common.{◌≡◌, ℕ, zero, suc, ◌-◌, ◌<◌, min, Result, Ok, Err, IfOk, OnOk, List, [], ◌∷◌, drop, refl, ap, ◌∙◌, arith}
 use Rattle.byteorder.specs.Endian.{little_number}
 use Rattle.host_calls.specs.declared.pieces.Piece.{Piece}
 use Rattle.host_calls.specs.Pieces.{cut, piece_in, pieces_in}

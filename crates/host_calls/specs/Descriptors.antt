@@ -1,7 +1,7 @@
 -- Calls that make, change and close descriptors.
 -- Source: dup(2), fcntl(2), ioctl(2), close(2), pipe2(2). That other flags and commands are refused, and that no ioctl is there, is the
 -- project's own.
-use Rattle.std.specs.Prelude.{ℕ, ◌%◌, ◌==◌, Bool, false, true, not, ◌||◌, if◌then◌else◌, is_some, pos, List, [], ◌∷◌, ◌++◌, Result, Ok, Err}
+use Rattle.std.specs.Prelude.{ℕ, ◌%◌, ◌==◌, false, true, not, ◌||◌, if◌then◌else◌, is_some, pos, List, [], ◌∷◌, ◌++◌, Result, Ok, Err}
 use Rattle.byteorder.specs.Endian.{little_bytes}
 use Rattle.file_tree.specs.declared.errno.Errno.{Errno}
 use Rattle.file_tree.specs.declared.errno.Errno.TheVariants.{EBADF, EFAULT, EINVAL, ENOTTY}

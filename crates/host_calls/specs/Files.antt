@@ -1,8 +1,8 @@
 -- What calls on files come to: what the table of files answers and leaves is what the system answers and has.
 -- Source: intro(2): a refusal is the negated number of its error.
-use Rattle.std.specs.Prelude.{ℕ, pos, List, length, Result, Ok, Err, Option, Some, None}
+use Rattle.std.specs.Prelude.{ℕ, pos, Result, Ok, Err, Option, Some, None}
 use Rattle.file_tree.specs.declared.errno.Errno.{Errno}
-use Rattle.file_tree.specs.declared.errno.Errno.TheVariants.{EBADF, ENOMEM, ENOSYS}
+use Rattle.file_tree.specs.declared.errno.Errno.TheVariants.{EAGAIN, EBADF, ENOMEM}
 use Rattle.file_table.specs.declared.fault.FileFault.{FileFault}
 use Rattle.file_table.specs.declared.fault.FileFault.TheVariants as faults
 use Rattle.file_table.specs.declared.state.Opened.{Opened}
@@ -33,10 +33,10 @@ abbrev pub told_of : Option Opened → (Opened → ℕ) → Shared → Answered
 told_of None tell shared = refuses EBADF shared
 told_of (Some opened) tell shared = answers (pos (tell opened)) shared
 
--- where a call on files would wait it answers ENOSYS, until calls that wait are there
+-- a call that would wait moves nothing now
 abbrev pub errno_of : FileFault → Errno
 errno_of (faults.Errno errno) = errno
-errno_of faults.Block = ENOSYS
+errno_of faults.Block = EAGAIN
 errno_of faults.Memory = ENOMEM
 
 -- what the table answers to a call that may wait

@@ -9,6 +9,7 @@ shared_of host = record {
   memory = host.pages;
   held = host.held;
   files = host.files;
+  futexes = host.futexes;
   queue = host.pending.queue;
   program_break = host.program_break;
   drawn = host.drawn;

@@ -1,5 +1,5 @@
--- The calls that don't wait: one dispatch over all calls. A call that is not there yet answers ENOSYS, and so would here
--- those that the core makes itself, which ends threads and makes them.
+-- The calls that never wait: one dispatch over all calls. A call that is not there yet answers ENOSYS, and so would here
+-- those that may wait, and those that the core makes itself, which ends threads and makes them.
 -- Source: the manual pages of the calls, and syscall(2).
 use Rattle.std.specs.Prelude.{ℕ, List}
 use Rattle.call_table.specs.declared.call.Call.{Call}
@@ -10,7 +10,7 @@ use Rattle.host_calls.specs.Answers.{Answered, argument, ending, refuses}
 use Rattle.host_calls.specs.Descriptors.{close, dup, dup3, fcntl, ioctl, pipe2}
 use Rattle.host_calls.specs.Identity.{getpid, getrandom, gettid, prlimit64, sched_yield, uname, user}
 use Rattle.host_calls.specs.Maps.{brk, mmap, mprotect, munmap}
-use Rattle.host_calls.specs.Moving.{ftruncate, getdents64, lseek, pread64, pwrite64, read, readv, write, writev}
+use Rattle.host_calls.specs.Moving.{ftruncate, getdents64, lseek, pread64, pwrite64}
 use Rattle.host_calls.specs.Paths.{mkdirat, openat, readlinkat, unlinkat}
 use Rattle.host_calls.specs.Stat.{fstat, newfstatat}
 use Rattle.host_calls.specs.Time.{clock_gettime}
@@ -30,10 +30,10 @@ made call.Close thread args shared = close (argument 0 args) shared
 made call.Pipe2 thread args shared = pipe2 thread (argument 0 args) (argument 1 args) shared
 made call.Getdents64 thread args shared = getdents64 thread (argument 0 args) (argument 1 args) (argument 2 args) shared
 made call.Lseek thread args shared = lseek (argument 0 args) (argument 1 args) (argument 2 args) shared
-made call.Read thread args shared = read thread (argument 0 args) (argument 1 args) (argument 2 args) shared
-made call.Write thread args shared = write (argument 0 args) (argument 1 args) (argument 2 args) shared
-made call.Readv thread args shared = readv thread (argument 0 args) (argument 1 args) (argument 2 args) shared
-made call.Writev thread args shared = writev (argument 0 args) (argument 1 args) (argument 2 args) shared
+made call.Read thread args shared = refuses ENOSYS shared
+made call.Write thread args shared = refuses ENOSYS shared
+made call.Readv thread args shared = refuses ENOSYS shared
+made call.Writev thread args shared = refuses ENOSYS shared
 made call.Pread64 thread args shared = pread64 thread (argument 0 args) (argument 1 args) (argument 2 args) (argument 3 args) shared
 made call.Pwrite64 thread args shared = pwrite64 (argument 0 args) (argument 1 args) (argument 2 args) (argument 3 args) shared
 made call.Ppoll thread args shared = refuses ENOSYS shared

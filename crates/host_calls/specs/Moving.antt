@@ -1,7 +1,7 @@
 -- Calls that move bytes of files, and offsets.
 -- Source: read(2), readv(2), pread(2), write(2), writev(2), pwrite(2), lseek(2), ftruncate(2), getdents64(2). That the
 -- descriptor is looked at before the memory is the project's own.
-use Rattle.std.specs.Prelude.{ℕ, ◌*◌, ◌^◌, min, nat_le, nat_lt, Bool, true, false, not, pos, List, [], ◌∷◌, length, is_some, Result, Ok, Err, Option, Some, None}
+use Rattle.std.specs.Prelude.{ℕ, ◌^◌, min, nat_le, Bool, false, not, pos, List, [], ◌∷◌, length, is_some, Result, Ok, Err, Option, Some, None}
 use Rattle.std.specs.Int.{w64, cast_signed}
 use Rattle.file_tree.specs.declared.errno.Errno.{Errno}
 use Rattle.file_tree.specs.declared.errno.Errno.TheVariants.{EBADF, EFAULT, EINVAL}
@@ -14,11 +14,10 @@ use Rattle.file_table.specs.Flags.{can_read, can_write}
 use Rattle.file_table.specs.Moving.{read as reads, read_at as reads_at, seek as seeks, truncate as truncates, write as writes, write_at as writes_at}
 use Rattle.file_table.specs.State.{Files}
 use Rattle.guest_pages.specs.Faults.{first_fault, readable, writable}
-use Rattle.guest_pages.specs.Operations.{bytes_at}
 use Rattle.host_calls.specs.declared.pieces.Piece.{Piece}
 use Rattle.host_calls.specs.Answers.{Answered, Refusal, refusal, refuses, unless}
 use Rattle.host_calls.specs.Files.{answered_by, errno_of, left_by, moved_by, with_files}
-use Rattle.host_calls.specs.Pieces.{any_bad, cut, gathered, most_bytes, one_piece, pieces_in, put_in, scattered, stored_of, total, with_stored}
+use Rattle.host_calls.specs.Pieces.{any_bad, gathered, most_bytes, one_piece, put_in, scattered, stored_of, total, with_stored}
 use Rattle.host_calls.specs.Shared.{Shared}
 
 abbrev pub allows_by : Option Opened → (ℕ → Bool) → Bool
@@ -62,10 +61,6 @@ taken_at thread pieces (Err errno) shared = refuses errno shared
 taken_at thread pieces (Ok bytes) shared =
     record { shared = with_stored (scattered thread pieces bytes (stored_of shared)) shared; answer = pos (length bytes) }
 
--- read(2)
-unfoldable pub read : ℕ → ℕ → ℕ → ℕ → Shared → Answered
-read thread fd at wish shared = read_into thread fd (one_piece at wish) shared
-
 -- pread(2)
 abbrev pub offset_refusals : ℕ → List Refusal
 offset_refusals offset = refusal (is_negative offset) EINVAL ∷ []
@@ -75,22 +70,6 @@ pread64 thread fd at wish offset shared =
     unless (offset_refusals offset) shared
     (unless (reading_refusals fd (one_piece at wish) shared) shared
     (taken_at thread (one_piece at wish) (reads_at fd offset (total (one_piece at wish)) shared.files) shared))
-
--- the pieces of readv and writev: at most 1,024, whose places and sizes stand in memory
-abbrev pub vector_refusals : Bool → ℕ → ℕ → Shared → List Refusal
-vector_refusals allowed at count shared =
-    refusal (nat_lt 1024 count) EINVAL
-    ∷ refusal (not allowed) EBADF
-    ∷ refusal (is_some (first_fault readable shared.memory at (16 * count))) EFAULT
-    ∷ []
-
-abbrev pub vector : ℕ → ℕ → Shared → List Piece
-vector at count shared = cut most_bytes (pieces_in count (bytes_at shared.memory at (16 * count)))
-
--- readv(2)
-unfoldable pub readv : ℕ → ℕ → ℕ → ℕ → Shared → Answered
-readv thread fd at count shared =
-    unless (vector_refusals (is_readable fd shared.files) at count shared) shared (read_into thread fd (vector at count shared) shared)
 
 -- ---- writing
 
@@ -103,21 +82,12 @@ unfoldable pub write_from : ℕ → List Piece → Shared → Answered
 write_from fd pieces shared =
     unless (writing_refusals fd pieces shared) shared (moved_by (writes fd (gathered shared.memory pieces) shared.files) shared)
 
--- write(2)
-unfoldable pub write : ℕ → ℕ → ℕ → Shared → Answered
-write fd at wish shared = write_from fd (one_piece at wish) shared
-
 -- pwrite(2)
 unfoldable pub pwrite64 : ℕ → ℕ → ℕ → ℕ → Shared → Answered
 pwrite64 fd at wish offset shared =
     unless (offset_refusals offset) shared
     (unless (writing_refusals fd (one_piece at wish) shared) shared
     (answered_by (writes_at fd offset (gathered shared.memory (one_piece at wish)) shared.files) shared))
-
--- writev(2)
-unfoldable pub writev : ℕ → ℕ → ℕ → Shared → Answered
-writev fd at count shared =
-    unless (vector_refusals (is_writable fd shared.files) at count shared) shared (write_from fd (vector at count shared) shared)
 
 -- ---- offsets and sizes
 

@@ -1,7 +1,7 @@
 -- Calls on paths.
 -- Source: path_resolution(7), openat(2), mkdirat(2), unlinkat(2), readlinkat(2). That the descriptor of a relative path goes
 -- before an address that can't be read, and both before the path, is the project's own.
-use Rattle.std.specs.Prelude.{ℕ, zero, suc, ◌+◌, nat_lt, ◌==◌, Bool, true, false, not, ◌&&◌, ◌||◌, if◌then◌else◌, ℤ, List, [], ◌∷◌, length, take, is_some, Result, Ok, Err, Option, Some, None}
+use Rattle.std.specs.Prelude.{ℕ, zero, suc, ◌+◌, nat_lt, ◌==◌, Bool, true, false, not, ◌&&◌, ◌||◌, if◌then◌else◌, ℤ, List, [], ◌∷◌, length, take, is_some, Result, Ok, Err}
 use Rattle.std.specs.Int.{w64, cast_signed}
 use Rattle.std.specs.List.{position_or_len}
 use Rattle.file_tree.specs.declared.errno.Errno.{Errno}
@@ -12,7 +12,6 @@ use Rattle.file_table.specs.Flags.{are_wrong}
 use Rattle.file_table.specs.Opening.{opened}
 use Rattle.file_table.specs.Paths.{base, with_dir, without}
 use Rattle.file_table.specs.State.{Files}
-use Rattle.guest_pages.specs.Cells.{Cell}
 use Rattle.guest_pages.specs.Faults.{fault_of, readable}
 use Rattle.guest_pages.specs.Operations.{byte_of}
 use Rattle.guest_pages.specs.Ranges.{Range, cell_at}

@@ -5,6 +5,7 @@ use Rattle.std.specs.Prelude.{ℕ, zero, suc, ◌+◌, ◌-◌, ◌^◌, ◌++�
 use Rattle.guest_pages.specs.Ranges.{Range}
 use Rattle.word_memory.specs.declared.reservations.Held.{Held}
 use Rattle.file_table.specs.State.{Files}
+use Rattle.futex_table.specs.declared.waiter.Waiter.{Waiter}
 use Rattle.host_calls.specs.Queue.{Queue}
 
 -- the program's break: where it can begin, on a page's boundary, and where it is
@@ -18,6 +19,8 @@ pub record Shared : Type 0 where
   pub held : List Held
   -- the tree, the descriptors with what they lead to, and the devices
   pub files : Files
+  -- the threads that wait at addresses, in the order in which they came
+  pub futexes : List Waiter
   pub queue : Queue
   pub program_break : ProgramBreak
   -- how many random bytes were drawn

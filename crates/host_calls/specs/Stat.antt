@@ -1,7 +1,7 @@
 -- What is told of a file.
 -- Source: stat(2), and `struct stat` of Linux's generic ABI. The modes, that a device and a pipe have inode 0, and that a
 -- directory has size 0, are the project's own.
-use Rattle.std.specs.Prelude.{ℕ, ◌+◌, ◌/◌, ◌==◌, Bool, true, false, not, ◌&&◌, if◌then◌else◌, pos, ℤ, List, [], ◌∷◌, ◌++◌, length, replicate, is_some, bit_and, Result, Ok, Err, Option, Some, None}
+use Rattle.std.specs.Prelude.{ℕ, ◌+◌, ◌/◌, ◌==◌, not, ◌&&◌, if◌then◌else◌, pos, ℤ, List, [], ◌∷◌, ◌++◌, length, replicate, is_some, bit_and, Result, Ok, Err, Option, Some, None}
 use Rattle.std.specs.Int.{w64, cast_signed}
 use Rattle.byteorder.specs.Endian.{little_bytes}
 use Rattle.file_tree.specs.declared.errno.Errno.{Errno}

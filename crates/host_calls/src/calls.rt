@@ -10,9 +10,9 @@ use call_table::{Call, CallNo};
 use file_tree::Errno;
 use std::alloc::AllocError;
 
-/// Makes a call of a thread that doesn't wait, and gives its answer, or the negated number of its error. It ends the
+/// Makes a call of a thread that never waits, and gives its answer, or the negated number of its error. It ends the
 /// thread's reservation. After want of memory all is as before. A call that isn't there yet answers `ENOSYS`, and so do
-/// those that make and end threads. It costs by the bytes that the call names.
+/// those that may wait and those that make and end threads, which other layers make. It costs by the bytes that the call names.
 ///
 /// References: syscall(2), and the manual page of each call.
 pub fn immediate(host: &mut Host, thread: u32, call: &Call) -> Result<i64, AllocError>
@@ -54,10 +54,6 @@ impl Host {
             CallNo::Close => Ok(self.close(a0)),
             CallNo::Getdents64 => self.getdents64(thread, a0, a1, a2),
             CallNo::Lseek => Ok(self.lseek(a0, a1, a2)),
-            CallNo::Read => self.read(thread, a0, a1, a2),
-            CallNo::Write => self.write(a0, a1, a2),
-            CallNo::Readv => self.readv(thread, a0, a1, a2),
-            CallNo::Writev => self.writev(a0, a1, a2),
             CallNo::Pread64 => Ok(self.pread64(thread, a0, a1, a2, a3)),
             CallNo::Pwrite64 => self.pwrite64(a0, a1, a2, a3),
             CallNo::Readlinkat => self.readlinkat(a0, a1),
@@ -79,7 +75,11 @@ impl Host {
             CallNo::Prlimit64 => self.prlimit64(thread, a0, a1, a2, a3),
             CallNo::Getrandom => self.getrandom(thread, a0, a1),
             CallNo::Pipe2 => self.pipe2(thread, a0, a1),
-            CallNo::Ppoll
+            CallNo::Read
+            | CallNo::Write
+            | CallNo::Readv
+            | CallNo::Writev
+            | CallNo::Ppoll
             | CallNo::Exit
             | CallNo::ExitGroup
             | CallNo::SetTidAddress

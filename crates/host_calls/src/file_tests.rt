@@ -1,6 +1,7 @@
 use super::tests::files;
 use super::*;
 use call_table::{Call, CallNo};
+use futex_table::FutexTable;
 use guest_pages::{CHANGEABLE, Pages, Width};
 use std::alloc::Global;
 use std::test::Fail;
@@ -29,8 +30,6 @@ const Z: u64 = 0x1_0160;
 
 const SLASH: u64 = 0x1_0170;
 
-const PIECES: u64 = 0x1_0200;
-
 const ROOM: u64 = 0x1_0800;
 
 const STATUS: u64 = 0x1_0900;
@@ -38,18 +37,13 @@ const STATUS: u64 = 0x1_0900;
 /// Not mapped.
 const BAD: u64 = 0x1_1000;
 
-/// What stands in memory before the calls: `hi`, the names and some bytes, and two pieces, of two bytes and of one.
-const PLACED: [(u64, &[u8]); 11] = [
+/// What stands in memory before the calls: `hi`, the names and some bytes.
+const PLACED: [(u64, &[u8]); 9] = [
     (0x1_0000, b"hi"),
     (A, b"a\0"),
     (DIRECTORY, b"d\0"),
     (B, b"b\0"),
     (NONE, b"none\0"),
-    (PIECES, &[0, 0, 1, 0, 0, 0, 0, 0, 2, 0, 0, 0, 0, 0, 0, 0]),
-    (
-        PIECES + 16,
-        &[1, 0, 1, 0, 0, 0, 0, 0, 1, 0, 0, 0, 0, 0, 0, 0],
-    ),
     (ABC, b"abc"),
     (Z, b"z"),
     (SLASH, b"/\0"),
@@ -69,6 +63,7 @@ fn host(alloc: Global) -> Result<Host, Fail> {
         pages,
         held: Reservations::new(alloc),
         files: files(alloc)?,
+        futexes: FutexTable::new(alloc),
         pending: Pending::new(alloc)?,
         program_break: Break::behind(0x2_0000),
         drawn: 16,
@@ -78,11 +73,7 @@ fn host(alloc: Global) -> Result<Host, Fail> {
 
 fn answer(host: &mut Host, no: CallNo, args: [u64; 4]) -> Result<i64, Fail> {
     let [a0, a1, a2, a3] = args;
-    let call = Call {
-        no,
-        args: [a0, a1, a2, a3, 0, 0],
-    };
-    Ok(immediate(host, 1000, &call)?)
+    tests::answer(host, no, [a0, a1, a2, a3, 0, 0])
 }
 
 #[test]
@@ -147,9 +138,7 @@ fn descriptors_share_an_offset_and_are_used_again(rt: HostRuntime) -> Result<(),
         (CallNo::Unlinkat, [ROOT, A, 0, 0], 0),
         (CallNo::Openat, [ROOT, A, 0, 0], -2),
         (CallNo::Pread64, [4, ROOM, 10, 0], 3),
-        // nothing waits yet: a device has no bytes
-        (CallNo::Read, [0, ROOM, 1, 0], -38),
-        (CallNo::Fcntl, [0, 4, 0x800, 0], 0),
+        // a device has no bytes
         (CallNo::Read, [0, ROOM, 1, 0], -11),
         (CallNo::Close, [1, 0, 0, 0], 0),
         (CallNo::Write, [1, 0x1_0000, 1, 0], -9),
@@ -215,33 +204,6 @@ fn paths_lead_from_a_directory(rt: HostRuntime) -> Result<(), Fail> {
 }
 
 #[test]
-fn pieces_are_moved_in_one_go(rt: HostRuntime) -> Result<(), Fail> {
-    let mut host = host(rt.alloc())?;
-    let table = [
-        (CallNo::Openat, [ROOT, A, 0x42, 0], 2),
-        (CallNo::Writev, [2, PIECES, 2, 0], 3),
-        (CallNo::Writev, [2, PIECES, 0, 0], 0),
-        (CallNo::Writev, [9, BAD, 1025, 0], -22),
-        (CallNo::Writev, [9, BAD, 1, 0], -9),
-        (CallNo::Writev, [2, BAD, 1, 0], -14),
-        (CallNo::Readv, [2, PIECES, 1025, 0], -22),
-        (CallNo::Readv, [2, PIECES, 2, 0], 0),
-        (CallNo::Lseek, [2, 1, 0, 0], 1),
-        (CallNo::Readv, [2, PIECES, 2, 0], 2),
-        (CallNo::Readv, [0, PIECES, 2, 0], -38),
-        // a count is cut before its range is looked at
-        (CallNo::Write, [2, 0x1_0000, 4097, 0], -14),
-        (CallNo::Read, [2, 0x1_0000, 4097, 0], -14),
-    ];
-    for (no, args, wanted) in table {
-        assert_eq!(rt; answer(&mut host, no, args)?, wanted, "{no:?} {args:?}");
-    }
-    // `hi` and `i` were written, and `ii` was read over `hi`
-    assert_eq!(rt; host.pages.load(0x1_0000, Width::Two), Ok(0x6969));
-    Ok(())
-}
-
-#[test]
 fn a_pipe_is_read_and_written(rt: HostRuntime) -> Result<(), Fail> {
     let mut host = host(rt.alloc())?;
     let table = [
@@ -250,9 +212,9 @@ fn a_pipe_is_read_and_written(rt: HostRuntime) -> Result<(), Fail> {
         (CallNo::Pipe2, [BAD - 4, 0, 0, 0], -14),
         // the reading end is 2, the writing one 3
         (CallNo::Pipe2, [ROOM, 0, 0, 0], 0),
-        (CallNo::Read, [2, ROOM + 8, 4, 0], -38),
-        (CallNo::Writev, [3, PIECES, 2, 0], 3),
-        (CallNo::Readv, [2, PIECES, 2, 0], 3),
+        (CallNo::Read, [2, ROOM + 8, 4, 0], -11),
+        (CallNo::Write, [3, 0x1_0000, 2, 0], 2),
+        (CallNo::Read, [2, 0x1_0000, 4, 0], 2),
         (CallNo::Write, [3, 0x1_0000, 1, 0], 1),
         (CallNo::Read, [2, ROOM + 8, 4, 0], 1),
         (CallNo::Read, [3, ROOM + 8, 4, 0], -9),

@@ -4,6 +4,7 @@ ghost use Rattle.host_calls.specs.Shared.{clock_after, later_clock};
 use crate::breaks::Break;
 use crate::queue::Pending;
 use file_table::Files;
+use futex_table::FutexTable;
 use guest_pages::Pages;
 use word_memory::Reservations;
 
@@ -14,6 +15,8 @@ pub struct Host {
     pub held: Reservations,
     /// The tree, the descriptors with what they lead to, and the devices.
     pub files: Files,
+    /// The threads that wait at addresses.
+    pub futexes: FutexTable,
     pub pending: Pending,
     pub program_break: Break,
     /// How many random bytes were drawn, modulo 2^64.

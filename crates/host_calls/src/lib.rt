@@ -1,10 +1,10 @@
-//! What a system has beside its threads, and the system calls that don't wait.
+//! What a system has beside its threads, and the system calls that never wait.
 //!
 //! # Model
 //!
 //! `Host` is seen as `Shared` (`shared_of`): the memory, the reservations, the tree of files with descriptors and devices,
-//! the pending signals with the next id, the program's break, how many random bytes were drawn, the clock. Each field is the
-//! record of its owner. Marks on pending signals, which only the emulator has, are seen beside it.
+//! the threads that wait at addresses, the pending signals with the next id, the program's break, how many random bytes were
+//! drawn, the clock. Each field is the record of its owner. Marks on pending signals, which only the emulator has, are seen beside it.
 //!
 //! A call is one definition and one function, in the file of its family (`specs/Identity.antt` and `src/identity.rt`, and so
 //! on), with its manual page. One dispatch in `specs/Immediate.antt` and one in `src/calls.rt` choose it by its name; it
@@ -12,7 +12,8 @@
 //!
 //! # What the layer above knows
 //!
-//! `immediate` makes exactly the definition of that name. What every call owes is one record (`Owes`): the code stays, nothing
+//! `immediate` makes exactly the definition of that name. A call that may wait is made by the layer above, which moves bytes by
+//! `read_into` and `write_from`: what goes in one go is one definition for calls that are done at once and those that waited. What every call owes is one record (`Owes`): the code stays, nothing
 //! can be both written and executed, outputs only grow and at most one does, reservations only end, of pending signals it only
 //! sends more, and no time passes. So neither the core nor the process machine names a call that is made here.
 //!
@@ -44,6 +45,7 @@ mod time;
 pub use breaks::Break;
 pub use calls::immediate;
 pub use host::Host;
+pub use pieces::{Piece, Vector, is_any_bad, one_piece, scatter, vector_of};
 pub use queue::{Instance, Pending};
 
 #[cfg(test)]

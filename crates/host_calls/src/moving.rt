@@ -1,46 +1,33 @@
 //! Calls that move bytes of files, and offsets.
 
-ghost use Rattle.std.specs.Prelude.{◌≡◌, ◌≤◌, false, min, max, pos, Some, None, length, IfOk, IfErr, OnErr};
+ghost use Rattle.std.specs.Prelude.{◌≡◌, ◌≤◌, ◌≤ℤ◌, false, min, max, pos, Some, None, length, IfOk, IfErr, OnErr};
 ghost use Rattle.file_table.specs.Entries.{list};
 ghost use Rattle.file_table.specs.Moving.{read as read_table, standing};
 ghost use Rattle.host_calls.specs.Answers.{refuses};
 ghost use Rattle.host_calls.specs.Files.{errno_of as errno_by};
 ghost use Rattle.host_calls.specs.Host.{gives, shared_of};
-ghost use Rattle.host_calls.specs.Moving.{ftruncate, getdents64, is_negative, is_readable, is_writable, lseek, pread64, pwrite64, read, read_into, readv, taken, told_entries, write, write_from, writev};
+ghost use Rattle.host_calls.specs.Moving.{ftruncate, getdents64, is_negative, is_readable, is_writable, lseek, pread64, pwrite64, read_into, taken, told_entries, write_from};
 ghost use Rattle.guest_pages.specs.Faults.{first_fault, writable};
 ghost use Rattle.host_calls.specs.Pieces.{any_bad, most_bytes, total};
 
 use crate::host::Host;
-use crate::pieces::{MOST_BYTES, Piece, gather, is_any_bad, put_piece, scatter, vector_of};
+use crate::pieces::{MOST_BYTES, Piece, gather, is_any_bad, one_piece, put_piece, scatter};
 use file_table::FileFault;
 use file_tree::Errno;
 use guest_pages::{READABLE, WRITABLE};
 use std::alloc::AllocError;
 
-/// The most pieces of a vector.
-const MOST_PIECES: u64 = 1024;
-
 /// One more than the largest offset.
 const OFFSET_END: u64 = 0x8000_0000_0000_0000;
 
-/// The error of a call that can't be made. Where it would wait that is `ENOSYS`, until calls that wait are there.
+/// The error of a call that can't be made. Where it would wait, nothing moves now.
 fn errno_of(fault: FileFault) -> Errno
     ensures { result ≡ errno_by fault }
 {
     match fault {
         FileFault::Errno(errno) => errno,
-        FileFault::Block => Errno::ENOSYS,
+        FileFault::Block => Errno::EAGAIN,
         FileFault::Memory => Errno::ENOMEM,
-    }
-}
-
-/// The one piece of a call, cut to what a call moves.
-fn one_piece(at: u64, wish: u64) -> Piece
-    ensures { result ≡ record { at = at; size = min wish most_bytes } }
-{
-    Piece {
-        at,
-        size: wish.min(MOST_BYTES),
     }
 }
 
@@ -54,7 +41,7 @@ fn needed(size: u64, count: u64) -> u64
 
 impl Host {
     /// Whether a descriptor is open for reading.
-    fn is_readable(&self, fd: u64) -> bool
+    pub fn is_readable(&self, fd: u64) -> bool
         ensures { result ≡ is_readable fd self.now.files }
     {
         match self.files.what(fd) {
@@ -64,7 +51,7 @@ impl Host {
     }
 
     /// Whether a descriptor is open for writing.
-    fn is_writable(&self, fd: u64) -> bool
+    pub fn is_writable(&self, fd: u64) -> bool
         ensures { result ≡ is_writable fd self.now.files }
     {
         match self.files.what(fd) {
@@ -73,55 +60,15 @@ impl Host {
         }
     }
 
-    /// Reads bytes into memory, in time that their number bounds. Those of a file are copied once, and no memory is taken for
-    /// them; for those of a pipe or a device it is.
+    /// Reads bytes into pieces of memory, which are at most 1,048,576 bytes, in time that their number bounds, and tells how
+    /// many. Those of a file are copied once, and no memory is taken for them; for those of a pipe or a device it is.
     ///
-    /// References: read(2).
-    #[tactic(auto, unfolding(crate::specs::Moving::read))]
-    pub(crate) fn read(
-        &mut self,
-        thread: u32,
-        fd: u64,
-        at: u64,
-        wish: u64,
-    ) -> Result<i64, AllocError>
-        ensures answer { IfOk result (λ answer. gives answer self.new ≡ read thread fd at wish (shared_of self.old)) }
-        ensures pending { self.new.pending ≡ self.old.pending }
-        ensures err { OnErr result (self.new ≡ self.old) }
-    {
-        let piece = one_piece(at, wish);
-        self.read_into(thread, fd, &[piece], piece.size)
-    }
-
-    /// Reads bytes into pieces of memory. Beside what `read` takes memory for it takes it for what stands of the pieces.
+    /// It answers `EBADF` where the descriptor isn't open for reading, `EFAULT` where a piece can't be written, what the table
+    /// of files refuses, and `EAGAIN` where a read would wait.
     ///
-    /// References: readv(2).
-    #[tactic(auto, unfolding(crate::specs::Moving::readv))]
-    pub(crate) fn readv(
-        &mut self,
-        thread: u32,
-        fd: u64,
-        at: u64,
-        count: u64,
-    ) -> Result<i64, AllocError>
-        ensures answer { IfOk result (λ answer. gives answer self.new ≡ readv thread fd at count (shared_of self.old)) }
-        ensures pending { self.new.pending ≡ self.old.pending }
-        ensures err { OnErr result (self.new ≡ self.old) }
-    {
-        if count > MOST_PIECES {
-            return Ok(-Errno::EINVAL.code());
-        }
-        if !self.is_readable(fd) {
-            return Ok(-Errno::EBADF.code());
-        }
-        match vector_of(self.files.alloc(), &self.pages, at, count)? {
-            Some(vector) => self.read_into(thread, fd, vector.pieces.as_slice(), vector.total),
-            None => Ok(-Errno::EFAULT.code()),
-        }
-    }
-
+    /// References: read(2), readv(2).
     #[tactic(auto, unfolding(crate::specs::Moving::read_into))]
-    fn read_into(
+    pub fn read_into(
         &mut self,
         thread: u32,
         fd: u64,
@@ -250,44 +197,18 @@ impl Host {
         }
     }
 
-    /// Writes bytes of memory to a file, a device or a pipe, in time that their number bounds, over many calls.
+    /// Writes what stands in pieces of memory, which are at most 1,048,576 bytes, in one go and in time that their number
+    /// bounds, and tells how many bytes went. It takes memory for them.
     ///
-    /// References: write(2).
-    #[tactic(auto, unfolding(crate::specs::Moving::write))]
-    pub(crate) fn write(&mut self, fd: u64, at: u64, wish: u64) -> Result<i64, AllocError>
-        ensures answer { IfOk result (λ answer. gives answer self.new ≡ write fd at wish (shared_of self.old)) }
-        ensures pending { self.new.pending ≡ self.old.pending }
-        ensures err { OnErr result (self.new ≡ self.old) }
-    {
-        let piece = one_piece(at, wish);
-        self.write_from(fd, &[piece])
-    }
-
-    /// Writes what stands in pieces of memory, in one go.
+    /// It answers `EBADF` where the descriptor isn't open for writing, `EFAULT` where a piece can't be read, what the table of
+    /// files refuses, and `EAGAIN` where a write would wait.
     ///
-    /// References: writev(2).
-    #[tactic(auto, unfolding(crate::specs::Moving::writev))]
-    pub(crate) fn writev(&mut self, fd: u64, at: u64, count: u64) -> Result<i64, AllocError>
-        ensures answer { IfOk result (λ answer. gives answer self.new ≡ writev fd at count (shared_of self.old)) }
-        ensures pending { self.new.pending ≡ self.old.pending }
-        ensures err { OnErr result (self.new ≡ self.old) }
-    {
-        if count > MOST_PIECES {
-            return Ok(-Errno::EINVAL.code());
-        }
-        if !self.is_writable(fd) {
-            return Ok(-Errno::EBADF.code());
-        }
-        match vector_of(self.files.alloc(), &self.pages, at, count)? {
-            Some(vector) => self.write_from(fd, vector.pieces.as_slice()),
-            None => Ok(-Errno::EFAULT.code()),
-        }
-    }
-
+    /// References: write(2), writev(2).
     #[tactic(auto, unfolding(crate::specs::Moving::write_from))]
-    fn write_from(&mut self, fd: u64, pieces: &[Piece]) -> Result<i64, AllocError>
+    pub fn write_from(&mut self, fd: u64, pieces: &[Piece]) -> Result<i64, AllocError>
         requires { total pieces.now ≤ most_bytes }
         ensures answer { IfOk result (λ answer. gives answer self.new ≡ write_from fd pieces.now (shared_of self.old)) }
+        ensures few { IfOk result (λ answer. answer ≤ℤ pos most_bytes) }
         ensures pending { self.new.pending ≡ self.old.pending }
         ensures err { OnErr result (self.new ≡ self.old) }
     {

@@ -1,6 +1,6 @@
 //! The pieces of memory between which a call and a file move bytes.
 
-ghost use Rattle.std.specs.Prelude.{◌≡◌, ◌≤◌, ◌+◌, ◌*◌, ◌++◌, false, None, IfOk, IfSome, IfNone, IsSome, is_some, OnOk, length, drop};
+ghost use Rattle.std.specs.Prelude.{◌≡◌, ◌≤◌, ◌+◌, ◌*◌, ◌++◌, false, None, IfOk, IfSome, IfNone, IsSome, is_some, OnOk, length, min, drop};
 ghost use Rattle.guest_pages.specs.Faults.{KeepsRights, first_fault, readable, writable};
 ghost use Rattle.byteorder.specs.Endian.{little_number};
 ghost use Rattle.guest_pages.specs.Operations.{bytes_at};
@@ -17,20 +17,30 @@ pub(crate) const MOST_BYTES: u64 = 1_048_576;
 /// A piece of memory: where it begins, and how many bytes it has.
 #[derive(Clone, Copy, Debug, PartialEq, Eq)]
 pub struct Piece {
-    pub(crate) at: u64,
-    pub(crate) size: u64,
+    pub at: u64,
+    pub size: u64,
 }
 
 /// The pieces of a vector, with how many bytes they have.
 #[derive(Drop)]
-pub(crate) struct Vector {
-    pub(crate) pieces: Vec<Piece>,
-    pub(crate) total: u64,
+pub struct Vector {
+    pub pieces: Vec<Piece>,
+    pub total: u64,
 }
 
-/// The pieces whose places and sizes stand in memory, cut to what a call moves; none where these can't be read. It takes memory
+/// The one piece of a call, cut to what a call moves.
+pub fn one_piece(at: u64, wish: u64) -> Piece
+    ensures { result ≡ record { at = at; size = min wish most_bytes } }
+{
+    Piece {
+        at,
+        size: wish.min(MOST_BYTES),
+    }
+}
+
+/// The pieces whose places and sizes stand in memory, at most 1,024 of them, cut to what a call moves; none where these can't be read. It takes memory
 /// for them.
-pub(crate) fn vector_of(
+pub fn vector_of(
     alloc: Global,
     pages: &Pages,
     at: u64,
@@ -105,7 +115,7 @@ fn number_at(bytes: &[u8], at: usize) -> u64
 }
 
 /// Whether a piece of them hasn't the rights.
-pub(crate) fn is_any_bad(pages: &Pages, pieces: &[Piece], needed: Rights) -> bool
+pub fn is_any_bad(pages: &Pages, pieces: &[Piece], needed: Rights) -> bool
     ensures { result ≡ any_bad needed pages.now pieces.now }
 {
     pieces.iter().any(|piece| is_bad(pages, piece, needed))
@@ -121,7 +131,8 @@ fn is_bad(pages: &Pages, piece: &Piece, needed: Rights) -> bool
 pub(crate) fn gather(alloc: Global, pages: &Pages, pieces: &[Piece]) -> Result<Vec<u8>, AllocError>
     requires good { any_bad readable pages.now pieces.now ≡ false }
     requires few { total pieces.now ≤ most_bytes }
-    ensures { IfOk result (λ bytes. bytes.items ≡ gathered pages.now pieces.now) }
+    ensures same { IfOk result (λ bytes. bytes.items ≡ gathered pages.now pieces.now) }
+    ensures few { IfOk result (λ bytes. length bytes.items ≤ most_bytes) }
 {
     let mut bytes = Vec::new(alloc);
     let mut k = 0;
@@ -149,7 +160,7 @@ fn add_piece(pages: &Pages, piece: Piece, bytes: &mut Vec<u8>) -> Result<(), All
 }
 
 /// Bytes go into the pieces, one after another, as stores of the thread.
-pub(crate) fn scatter(
+pub fn scatter(
     pages: &mut Pages,
     held: &mut Reservations,
     thread: u32,

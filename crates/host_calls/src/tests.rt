@@ -2,6 +2,7 @@ use super::*;
 use call_table::{Call, CallNo};
 use file_table::Files;
 use file_tree::Tree;
+use futex_table::FutexTable;
 use guest_pages::{CHANGEABLE, PageFault, Pages, RUNNABLE, Width};
 use std::alloc::{AllocError, Global};
 use std::test::Fail;
@@ -31,6 +32,7 @@ fn host(alloc: Global) -> Result<Host, Fail> {
         pages,
         held: Reservations::new(alloc),
         files: files(alloc)?,
+        futexes: FutexTable::new(alloc),
         pending: Pending::new(alloc)?,
         program_break: Break::behind(0x1_F001),
         drawn: 16,
@@ -38,9 +40,15 @@ fn host(alloc: Global) -> Result<Host, Fail> {
     })
 }
 
-fn answer(host: &mut Host, no: CallNo, args: [u64; 6]) -> Result<i64, Fail> {
+/// A call is made; what a read and a write of one piece move is moved in one go.
+pub fn answer(host: &mut Host, no: CallNo, args: [u64; 6]) -> Result<i64, Fail> {
+    let piece = one_piece(args[1], args[2]);
     let call = Call { no, args };
-    Ok(immediate(host, THREAD, &call)?)
+    match no {
+        CallNo::Read => Ok(host.read_into(THREAD, args[0], &[piece], piece.size)?),
+        CallNo::Write => Ok(host.write_from(args[0], &[piece])?),
+        _ => Ok(immediate(host, THREAD, &call)?),
+    }
 }
 
 const ALL_ONES: u64 = u64::MAX;

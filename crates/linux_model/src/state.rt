@@ -5,8 +5,8 @@ ghost use Rattle.linux_model.specs.Walker.{after, context, process};
 
 use crate::task::Task;
 use file_tree::Errno;
-use guest_core::{End, asked, ends_process};
-use host_calls::{Host, Instance, immediate};
+use guest_core::{End, asked, call_at_once, ends_process};
+use host_calls::{Host, Instance};
 use isa_step::{Fault, Made, is_at_call, make_instruction};
 use std::alloc::AllocError;
 
@@ -87,7 +87,7 @@ impl State {
             self.end = Some(End::Exit((call.args[0] % 256) as u8));
             return Ok(());
         }
-        let answer = immediate(&mut self.host, self.task.id, &call)?;
+        let answer = call_at_once(&mut self.host, self.task.id, &call)?;
         self.task.answer(answer);
         Ok(())
     }

@@ -1,4 +1,4 @@
-use Rattle.std.proofs.Common.{◌≤◌, Err, sym, ap, ◌∙◌, arith}
+use Rattle.std.proofs.Common.{Err, sym, ap, ◌∙◌, arith}
 use Rattle.guest_pages.specs.declared.fault.PageFault.{PageFault}
 use Rattle.guest_pages.specs.declared.fault.PageFault.TheVariants.{NoAccess, NotMapped}
 use Rattle.host_calls.proofs.PathFacts.{UpTo, all_read, found_fault, found_none, up_to}

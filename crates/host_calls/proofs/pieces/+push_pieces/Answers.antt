@@ -1,4 +1,4 @@
-use Rattle.std.proofs.Common.{◌≡◌, ◌+◌, ◌-◌, ℕ, min, List, ◌++◌, [], ◌∷◌, length, take, drop, sym, ap, ◌∙◌, append-nil, append_assoc, arith}
+use Rattle.std.proofs.Common.{◌≡◌, ◌+◌, ◌-◌, ℕ, min, List, ◌++◌, ◌∷◌, length, take, drop, sym, ap, ◌∙◌, append-nil, append_assoc, arith}
 use Rattle.std.proofs.lemmas.List.{take_rest}
 use Rattle.host_calls.specs.declared.pieces.Piece.{Piece}
 use Rattle.host_calls.specs.Pieces.{cut, pieces_in, total}

@@ -1,4 +1,4 @@
-use Rattle.std.proofs.Common.{◌+◌, List, ℕ, ◌++◌, get_or, length, drop, sym, ap, ◌∙◌, append-nil, append_assoc, arith}
+use Rattle.std.proofs.Common.{◌+◌, List, ℕ, ◌++◌, get_or, drop, sym, ap, ◌∙◌, append-nil, append_assoc, arith}
 use Rattle.guest_pages.specs.Faults.{readable}
 use Rattle.guest_pages.specs.Operations.{bytes_at}
 use Rattle.guest_pages.proofs.ByteFacts.{length_bytes_at}
@@ -25,8 +25,11 @@ pieces-preserved c =
           ∙ c.pieces.invariant.same));
     }
 
-pub returns : goal.returns
-returns c =
+pub returns-clause-few : goal.returns-clause-few
+returns-clause-few c = omega (arith, c.pieces.invariant.few, c.requires.few)
+
+pub returns-clause-same : goal.returns-clause-same
+returns-clause-same c =
     sym (append-nil c.pieces.bytes.items)
     ∙ (ap (λ (l : List ℕ). c.pieces.bytes.items ++ l) (sym (gather_end c.args.pages.now c.args.pieces.now c.pieces.k c.pieces-test.false))
     ∙ c.pieces.invariant.same)

@@ -1,4 +1,4 @@
-use Rattle.std.proofs.Common.{◌≡◌, ℕ, ◌+◌, ◌-◌, get_or, take, length, drop, sym, ap, ◌∙◌, arith}
+use Rattle.std.proofs.Common.{◌≡◌, ℕ, ◌+◌, ◌-◌, get_or, take, drop, sym, ap, ◌∙◌, arith}
 use Rattle.guest_pages.specs.Faults.{writable}
 use Rattle.host_calls.specs.Pieces.{Stored, put_in, scattered}
 use Rattle.host_calls.proofs.PieceFacts.{good_first, good_on, no_piece, scatter_end, scatter_step}

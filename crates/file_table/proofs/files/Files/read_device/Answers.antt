@@ -1,5 +1,5 @@
 -- The table stays sound.
-use Rattle.std.proofs.Common.{◌≡◌, ℕ, ◌<◌, length, sym, subst, ap, ◌∙◌}
+use Rattle.std.proofs.Common.{◌<◌, length, sym, subst, ap, ◌∙◌}
 use Rattle.std.proofs.lemmas.List.{get_or_default}
 use Rattle.file_table.specs.declared.state.Device.{Device}
 use Rattle.file_table.specs.Descriptors.{no_device}

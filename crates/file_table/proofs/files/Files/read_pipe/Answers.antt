@@ -1,5 +1,5 @@
 -- The table stays sound.
-use Rattle.std.proofs.Common.{◌≡◌, ℕ, ◌<◌, length, None, sym, subst, ap, ◌∙◌}
+use Rattle.std.proofs.Common.{◌<◌, length, None, sym, subst, ap, ◌∙◌}
 use Rattle.std.proofs.lemmas.List.{get_or_default}
 use Rattle.file_table.specs.State.{Files, is_open_by}
 use Rattle.file_table.proofs.SoundFacts.{pipe_changed}

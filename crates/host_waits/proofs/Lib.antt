@@ -1,0 +1,5 @@
+pub mod FutexFacts
+pub mod PartFacts
+pub mod PollFacts
+pub mod Unready
+pub mod WaitsOwe

@@ -1,0 +1,9 @@
+pub mod Begun
+pub mod Calls
+pub mod Futexes
+pub mod Moving
+pub mod Polling
+pub mod Sleeping
+pub mod Times
+pub mod Waiting
+pub mod Waits
